@@ -1,0 +1,145 @@
+-- The reasons of document 01 over the published state, and the whole answer: the lowest reason that holds, then 01's refusal or 000's rule.
+-- For a command reasons 1 and 3 stand before, where a table is read as a state. Assumes nothing.
+use mathlib.Core.Bool.{Bool, not, _&&_, _||_, cond}
+use mathlib.Core.Option.{none}
+use mathlib.Core.List.{List, [], _∷_}
+use Prim.Native.Nat.{ℕ}
+use lib.Dec.{eqb, ltb, leb}
+use lib.ListN.{length}
+use Rattle.nodes.specs.Sets.{node-limit, has}
+use Rattle.namespace.specs.Entries.{half-word, host}
+use Rattle.semantics.specs.Answers.{number}
+use Rattle.semantics.specs.Sizes.{group-limit, names-per-group, group-names, table-words}
+use Rattle.semantics.specs.Steps.{held, bad-group, answer-of, Command, within, register-name, re-register-name, unregister-name, whereis-name, registered-names, add-nodes, new-s-group, whereis-name-at, send-at, send, send-name, remove-nodes, delete-s-group, own-nodes, own-s-groups}
+use Rattle.semantics.specs.declared.Answer.{Answer}
+use Rattle.semantics.specs.declared.Reason.{Reason}
+use Rattle.semantics.specs.declared.Reason.the-variants.{Done, TableLength, RosterSize, CallerUnknown, GroupNameRange, NameZero, NodeUnknown, GroupUnknown, NotMember, NameTaken, PidTaken, NotRegistered, NamespaceFull, CallerOutside, GroupTaken, GroupsFull, RunShort}
+use Rattle.published.specs.Published.{Set, of-some, any, Namespace, Published, IsSGroupSNode, has-pid, Value, False, Error, Step, gives, transition}
+use Rattle.published.specs.Seen.{count, said}
+
+-- ---- what the reasons ask
+
+-- ni is not on the roster
+abbrev pub off-roster : ℕ → Published → Bool
+off-roster ni X = not (held (X .nds ni))
+
+-- a node of nis is not on the roster
+abbrev pub strays : Set → Published → Bool
+strays nis X = any node-limit (λ ni. nis ni && off-roster ni X)
+
+-- there is no s_group s
+abbrev pub unknown : ℕ → Published → Bool
+unknown s X = not (held (X .grs s))
+
+-- ni is not a member of s
+abbrev pub outsider : ℕ → ℕ → Published → Bool
+outsider ni s X = not (IsSGroupSNode ni s (X .grs))
+
+-- the namespace of s, empty where there is no s_group s
+abbrev pub names-in : ℕ → Published → Namespace
+names-in s X n = of-some none (λ g. g .namespace n) (X .grs s)
+
+-- the namespace of s has no room
+abbrev pub full : ℕ → Published → Bool
+full s X = leb names-per-group (count half-word (λ n. held (names-in s X n)))
+
+-- the run for a list has fewer words than the list that 000's rule gives
+abbrev pub too-long : ℕ → Step → Bool
+too-long room q = ltb room (length (said (q .value) .1))
+
+-- ---- which reason holds
+
+-- one line of 01's table, for one command
+pub record Test : Type 0 where
+  pub reason : Reason
+  pub holds : Bool
+
+infix 70 _when_
+-- the reason r, and whether it holds
+abbrev pub _when_ : Reason → Bool → Test
+r when x = record { reason = r; holds = x }
+
+-- the first that holds, or Done
+abbrev pub first : List Test → Reason
+first [] = Done
+first (t ∷ ts) = cond (t .holds) (t .reason) (first ts)
+
+-- unregister_name, whereis_name/2 and send/3
+abbrev pub tests-name : ℕ → ℕ → ℕ → Published → List Test
+tests-name s n ni X =
+    CallerUnknown when off-roster ni X ∷ GroupNameRange when bad-group s ∷ NameZero when eqb n 0
+    ∷ GroupUnknown when unknown s X ∷ NotMember when outsider ni s X ∷ NotRegistered when not (held (names-in s X n)) ∷ []
+
+-- whereis_name/3 and send/4: reasons 8 and 9 are about ni′ and don't speak of zero, where nothing is registered
+abbrev pub tests-at : ℕ → ℕ → ℕ → ℕ → Published → List Test
+tests-at ni′ s n ni X =
+    CallerUnknown when off-roster ni X ∷ GroupNameRange when leb group-names s ∷ NameZero when eqb n 0 ∷ NodeUnknown when off-roster ni′ X
+    ∷ GroupUnknown when (not (eqb s 0) && unknown s X) ∷ NotMember when (not (eqb s 0) && outsider ni′ s X)
+    ∷ NotRegistered when not (held (names-in s X n)) ∷ []
+
+-- add_nodes and remove_nodes
+abbrev pub tests-set : ℕ → ℕ → ℕ → Published → List Test
+tests-set s set ni X =
+    CallerUnknown when off-roster ni X ∷ GroupNameRange when bad-group s ∷ NodeUnknown when strays (has set) X
+    ∷ GroupUnknown when unknown s X ∷ NotMember when outsider ni s X ∷ []
+
+-- the reasons that a command can have, by number; room is how many words the run for a list has
+unfoldable pub tests : ℕ → Command → ℕ → Published → List Test
+tests room (within (register-name s n p)) ni X =
+    CallerUnknown when off-roster ni X ∷ GroupNameRange when bad-group s ∷ NameZero when eqb n 0 ∷ NodeUnknown when off-roster (host p) X
+    ∷ GroupUnknown when unknown s X ∷ NotMember when outsider ni s X ∷ NameTaken when held (names-in s X n)
+    ∷ PidTaken when has-pid p (names-in s X) ∷ NamespaceFull when full s X ∷ []
+tests room (within (re-register-name s n p)) ni X =
+    CallerUnknown when off-roster ni X ∷ GroupNameRange when bad-group s ∷ NameZero when eqb n 0 ∷ NodeUnknown when off-roster (host p) X
+    ∷ GroupUnknown when unknown s X ∷ NotMember when outsider ni s X ∷ PidTaken when has-pid p (names-in s X)
+    ∷ NamespaceFull when (not (held (names-in s X n)) && full s X) ∷ []
+tests room (within (unregister-name s n)) ni X = tests-name s n ni X
+tests room (within (whereis-name s n)) ni X = tests-name s n ni X
+tests room (within (registered-names s)) ni X =
+    CallerUnknown when off-roster ni X ∷ GroupNameRange when bad-group s ∷ GroupUnknown when unknown s X ∷ NotMember when outsider ni s X
+    ∷ RunShort when too-long room (transition (within (registered-names s)) ni X) ∷ []
+tests room (within (add-nodes s set)) ni X = tests-set s set ni X
+tests room (within (new-s-group s set)) ni X =
+    CallerUnknown when off-roster ni X ∷ GroupNameRange when bad-group s ∷ NodeUnknown when strays (has set) X
+    ∷ CallerOutside when not (has set ni) ∷ GroupTaken when held (X .grs s)
+    ∷ GroupsFull when leb group-limit (count group-names (λ t. held (X .grs t))) ∷ []
+tests room (whereis-name-at ni′ s n) ni X = tests-at ni′ s n ni X
+tests room (send-at ni′ s n) ni X = tests-at ni′ s n ni X
+tests room (send p) ni X = CallerUnknown when off-roster ni X ∷ NodeUnknown when off-roster (host p) X ∷ []
+tests room (send-name s n) ni X = tests-name s n ni X
+tests room (remove-nodes s set) ni X = tests-set s set ni X
+tests room (delete-s-group s) ni X =
+    CallerUnknown when off-roster ni X ∷ GroupNameRange when bad-group s ∷ GroupUnknown when unknown s X ∷ NotMember when outsider ni s X ∷ []
+tests room own-nodes ni X = CallerUnknown when off-roster ni X ∷ []
+tests room own-s-groups ni X = CallerUnknown when off-roster ni X ∷ RunShort when too-long room (transition own-s-groups ni X) ∷ []
+
+-- opening N nodes, those of nis hidden, in a run of that many words
+abbrev pub opening-tests : ℕ → ℕ → Set → List Test
+opening-tests run N nis =
+    TableLength when not (eqb run (table-words names-per-group)) ∷ RosterSize when (eqb N 0 || ltb node-limit N)
+    ∷ NodeUnknown when any node-limit (λ ni. nis ni && not (ltb ni N)) ∷ []
+
+-- ---- the answer
+
+-- 000 has a rule for reason 0 and for 8 to 12 and 14; the others are 01's
+abbrev pub ruled : Reason → Bool
+ruled r =
+    eqb (number r) (number Done) || (leb (number GroupUnknown) (number r) && leb (number r) (number NotRegistered))
+    || eqb (number r) (number CallerOutside)
+
+-- what 01 answers for its own: Error, and False for a full namespace
+abbrev pub refusal : Reason → Value
+refusal r = cond (eqb (number r) (number NamespaceFull)) False Error
+
+-- the state after a command, the library's answer, and the words of its list
+pub record Answered : Type 0 where
+  pub state : Published
+  pub answer : Answer
+  pub list : List ℕ
+
+-- the answer to the command c of ni: 000's where it has a rule for the reason; otherwise 01's, and nothing changes
+unfoldable pub answer : ℕ → Command → ℕ → Published → Answered
+answer room c ni X =
+    let r : Reason = first (tests room c ni X) in
+    let q : Step = cond (ruled r) (transition c ni X) (gives (refusal r) X) in
+    record { state = q .state; answer = answer-of (said (q .value) .0) r; list = said (q .value) .1 }

@@ -1,0 +1,90 @@
+-- Script lines of the seven commands that name one s_group: what each makes of a state or a table, and what its caller hears.
+-- Definitions only. Assumes nothing.
+use mathlib.Core.Logic.{_≢_}
+use mathlib.Core.Bool.{cond}
+use mathlib.Core.Option.{Option}
+use mathlib.Core.List.{List, [], _∷_}
+use Prim.Native.Nat.{ℕ, _+_, _≤_}
+use lib.ListN.{length}
+use Rattle.semantics.specs.Sizes.{group-limit, names-per-group}
+use Rattle.semantics.specs.State.{Group, State, find}
+use Rattle.semantics.specs.Steps.{Result, GroupCommand, target, creates, within, step}
+use Rattle.semantics.specs.Fits.{Fits}
+use Rattle.semantics.specs.Table.{state-of}
+use Rattle.semantics.specs.Call.{Call, call}
+use Rattle.semantics.specs.Mixes.{Turn}
+use Rattle.semantics.specs.declared.Answer.{Answer}
+
+-- what a caller hears: the answer and the words of its list
+pub record Said : Type 0 where
+  pub answer : Answer
+  pub list : List ℕ
+
+-- a line: the caller, how many words the run for its list has, the command
+pub record Line : Type 0 where
+  pub caller : ℕ
+  pub room : ℕ
+  pub command : GroupCommand
+
+-- the s_group that a line names
+abbrev pub key : Line → ℕ
+key l = target (l .command)
+
+-- the arguments of a line fit
+abbrev pub Line-fits : Line → Type 0
+Line-fits l = Fits (within (l .command))
+
+-- ---- on a state
+
+-- what a step says
+abbrev pub said-by-step : Result → Said
+said-by-step r = record { answer = r .answer; list = r .list }
+
+-- the step of a line
+abbrev pub step-of : Line → State → Result
+step-of l st = step (l .room) (l .caller) (within (l .command)) st
+
+-- the state after a line
+abbrev pub step-move : Line → State → State
+step-move l st = step-of l st .next
+
+-- what a line's caller hears
+abbrev pub step-say : Line → State → Said
+step-say l st = said-by-step (step-of l st)
+
+-- ---- on a table
+
+-- what a call says
+abbrev pub said-by-call : Call → Said
+said-by-call c = record { answer = c .answer; list = c .list }
+
+-- the call of a line
+abbrev pub call-of : Line → List ℕ → Call
+call-of l t = call (l .room) (l .caller) (within (l .command)) t
+
+-- the table after a line
+abbrev pub call-move : Line → List ℕ → List ℕ
+call-move l t = call-of l t .table
+
+-- what a line's caller hears
+abbrev pub call-say : Line → List ℕ → Said
+call-say l t = said-by-call (call-of l t)
+
+-- the s_group of the name s in a table: its members and names, or its absence
+abbrev pub group-in : ℕ → List ℕ → Option Group
+group-in s t = find s (state-of names-per-group t .groups)
+
+-- ---- new s_groups
+
+-- how many s_groups a line can make
+abbrev pub cost : Line → ℕ
+cost l = cond (creates (l .command)) 1 0
+
+-- how many of the turns are new_s_group lines
+abbrev pub news : List (Turn Line) → ℕ
+news [] = 0
+news (t ∷ m) = cost (t .line) + news m
+
+-- there is room for n s_groups more, where n is not zero
+abbrev pub Room-for : ℕ → State → Type 0
+Room-for n st = n ≢ 0 → length (st .groups) + n ≤ group-limit

@@ -1,0 +1,44 @@
+-- How large everything is, and where each part of the table begins. Nothing else spells these numbers. Assumes nothing.
+-- A roster has at most `node-limit` nodes, as many as a word has digits.
+use Prim.Native.Nat.{ℕ, _+_, _*_}
+use Rattle.nodes.specs.Sets.{node-limit}
+
+-- there are at most this many s_groups
+abbrev pub group-limit : ℕ
+group-limit = 32
+
+-- an s_group holds at most this many names
+abbrev pub names-per-group : ℕ
+names-per-group = 32
+
+-- s_group names lie below this; a contents word holds the count above the name
+abbrev pub group-names : ℕ
+group-names = 65536
+
+-- the words before the contents: roster size, hidden nodes, number of s_groups, zero
+abbrev pub head-words : ℕ
+head-words = 4
+
+-- where the contents words begin, one an s_group
+abbrev pub contents-at : ℕ
+contents-at = head-words
+
+-- where the members begin, one word an s_group
+abbrev pub members-at : ℕ
+members-at = contents-at + group-limit
+
+-- where the connections begin, one word a node
+abbrev pub links-at : ℕ
+links-at = members-at + group-limit
+
+-- where the free normal groups begin, one word a node
+abbrev pub free-at : ℕ
+free-at = links-at + node-limit
+
+-- where the bodies begin: the words of the names, cap words an s_group
+abbrev pub bodies-at : ℕ
+bodies-at = free-at + node-limit
+
+-- how many words a table has, with cap names an s_group
+abbrev pub table-words : ℕ → ℕ
+table-words cap = bodies-at + group-limit * cap

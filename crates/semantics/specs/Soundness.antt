@@ -1,0 +1,123 @@
+-- When a table is sound, in the order and the words of document 01. cap is how many names an s_group can hold. `Test` has the same as a
+-- test that computes, and `Agree` the proof that they agree. Assumes nothing.
+use mathlib.Core.Path.{_≡_}
+use mathlib.Core.Logic.{_≢_}
+use mathlib.Core.Bool.{true, false}
+use mathlib.Core.List.{List}
+use Prim.Native.Nat.{ℕ, _+_, _*_, _/_, _%_, _≤_, _<_}
+use lib.ListN.{length, getD}
+use Rattle.nodes.specs.Sets.{node-limit, has}
+use Rattle.namespace.specs.Entries.{half-word, host}
+use Rattle.semantics.specs.Sizes.{group-limit, group-names, contents-at, members-at, links-at, free-at, bodies-at, table-words}
+
+-- ---- the words by their meaning
+
+-- the word at k
+abbrev pub word : List ℕ → ℕ → ℕ
+word t k = getD t k 0
+
+-- the roster size N
+abbrev pub size-of : List ℕ → ℕ
+size-of t = word t 0
+
+-- the set of hidden nodes
+abbrev pub hidden-of : List ℕ → ℕ
+hidden-of t = word t 1
+
+-- the number G of s_groups
+abbrev pub count-of : List ℕ → ℕ
+count-of t = word t 2
+
+-- the contents word of group g
+abbrev pub contents-of : List ℕ → ℕ → ℕ
+contents-of t g = word t (contents-at + g)
+
+-- the name of group g
+abbrev pub name-of : List ℕ → ℕ → ℕ
+name-of t g = contents-of t g % group-names
+
+-- how many names are registered in group g
+abbrev pub names-of : List ℕ → ℕ → ℕ
+names-of t g = contents-of t g / group-names
+
+-- the members of group g
+abbrev pub members-of : List ℕ → ℕ → ℕ
+members-of t g = word t (members-at + g)
+
+-- the connections of node i
+abbrev pub links-of : List ℕ → ℕ → ℕ
+links-of t i = word t (links-at + i)
+
+-- the free normal group of node i
+abbrev pub free-of : List ℕ → ℕ → ℕ
+free-of t i = word t (free-at + i)
+
+-- word k of the names of group g
+abbrev pub entry-of : ℕ → List ℕ → ℕ → ℕ → ℕ
+entry-of cap t g k = word t (bodies-at + (cap * g + k))
+
+-- the process name and the pid in it
+abbrev pub process-of : ℕ → List ℕ → ℕ → ℕ → ℕ
+process-of cap t g k = entry-of cap t g k / half-word
+
+abbrev pub pid-of : ℕ → List ℕ → ℕ → ℕ → ℕ
+pid-of cap t g k = entry-of cap t g k % half-word
+
+-- ---- what is said of them
+
+-- node i is in the set w
+abbrev pub In : ℕ → ℕ → Type 0
+In i w = has w i ≡ true
+
+-- every node of the set w is on the roster
+abbrev pub On-roster : List ℕ → ℕ → Type 0
+On-roster t w = (i : ℕ) → In i w → i < size-of t
+
+-- node i is a normal node of the roster, in no s_group
+pub record Free-normal (t : List ℕ) (i : ℕ) : Type 0 where
+  pub on-roster : i < size-of t
+  pub normal : In i (hidden-of t) → ⊥
+  pub in-none : (g : ℕ) → g < count-of t → In i (members-of t g) → ⊥
+
+pub record Sound (cap : ℕ) (t : List ℕ) : Type 0 where
+  -- the run has the table's length
+  pub long : length t ≡ table-words cap
+  -- the ranges hold: of the roster size, the number of s_groups, their names (a remainder by 65,536), the process names
+  pub size-range : (1 ≤ size-of t) × (size-of t ≤ node-limit)
+  pub count-range : count-of t ≤ group-limit
+  pub group-range : (g : ℕ) → g < count-of t → 1 ≤ name-of t g
+  pub process-range : (g k : ℕ) → g < count-of t → k < names-of t g → (1 ≤ process-of cap t g k) × (process-of cap t g k < half-word)
+  -- contents ascend by group name, no two equal
+  pub groups-ascend : (g h : ℕ) → g < h → h < count-of t → name-of t g < name-of t h
+  -- each group has a member
+  pub manned : (g : ℕ) → g < count-of t → members-of t g ≢ 0
+  -- registered names in a group number at most cap, ascend, are distinct, have distinct pids and hosts on the roster
+  pub names-few : (g : ℕ) → g < count-of t → names-of t g ≤ cap
+  pub names-ascend : (g j k : ℕ) → g < count-of t → j < k → k < names-of t g → process-of cap t g j < process-of cap t g k
+  pub pids-distinct : (g j k : ℕ) → g < count-of t → j < k → k < names-of t g → pid-of cap t g j ≢ pid-of cap t g k
+  pub hosted : (g k : ℕ) → g < count-of t → k < names-of t g → host (pid-of cap t g k) < size-of t
+  -- all sets lie within the roster
+  pub hidden-within : On-roster t (hidden-of t)
+  pub members-within : (g : ℕ) → g < count-of t → On-roster t (members-of t g)
+  pub links-within : (i : ℕ) → i < size-of t → On-roster t (links-of t i)
+  pub free-within : (i : ℕ) → i < size-of t → On-roster t (free-of t i)
+  -- every unused word is zero
+  pub spare-zero : word t 3 ≡ 0
+  pub contents-zero : (g : ℕ) → count-of t ≤ g → g < group-limit → contents-of t g ≡ 0
+  pub members-zero : (g : ℕ) → count-of t ≤ g → g < group-limit → members-of t g ≡ 0
+  pub links-zero : (i : ℕ) → size-of t ≤ i → i < node-limit → links-of t i ≡ 0
+  pub free-zero : (i : ℕ) → size-of t ≤ i → i < node-limit → free-of t i ≡ 0
+  pub names-zero : (g k : ℕ) → g < count-of t → names-of t g ≤ k → k < cap → entry-of cap t g k ≡ 0
+  pub bodies-zero : (g k : ℕ) → count-of t ≤ g → g < group-limit → k < cap → entry-of cap t g k ≡ 0
+  -- connections are mutual and no node connects to itself
+  pub both-ways : (i j : ℕ) → i < size-of t → j < size-of t → In j (links-of t i) → In i (links-of t j)
+  pub not-itself : (i : ℕ) → i < size-of t → In i (links-of t i) → ⊥
+  -- members of one s_group are all connected
+  pub met : (g i j : ℕ) → g < count-of t → In i (members-of t g) → In j (members-of t g) → i ≢ j → In j (links-of t i)
+  -- the free normal groups cover exactly the normal nodes in no s_group
+  pub covered : (i : ℕ) → Free-normal t i → In i (free-of t i)
+  pub only-free : (i : ℕ) → i < node-limit → (Free-normal t i → ⊥) → free-of t i ≡ 0
+  -- each stands in the words of its own nodes, so that they are disjoint
+  pub own-words : (i j : ℕ) → i < node-limit → In j (free-of t i) → free-of t j ≡ free-of t i
+  -- two different free normal nodes share a group exactly when they are connected
+  pub shared : (i j : ℕ) → Free-normal t i → Free-normal t j → i ≢ j → has (free-of t i) j ≡ has (links-of t i) j

@@ -1,0 +1,5 @@
+pub mod Tests
+pub mod Below
+pub mod NamesReading
+pub mod Reading
+pub mod Verdict

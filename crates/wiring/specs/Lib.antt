@@ -1,0 +1,10 @@
+pub mod Tests
+pub mod Below
+pub mod Gather
+pub mod Mutual
+pub mod Exchange
+pub mod Turning
+pub mod Reading
+pub mod Places
+pub mod Zips
+pub mod Pairs

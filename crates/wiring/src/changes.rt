@@ -1,0 +1,94 @@
+// What changes the connections and the free groups, in place: node i has the word i of a run. A node past the end of a run touches nothing.
+ghost use mathlib.Core.Path.{_≡_};
+ghost use mathlib.Core.Bool.{cond};
+ghost use Rattle.nodes.specs.Sets.{has, diff, with-node, union-all};
+ghost use Rattle.semantics.specs.Steps.{mapi, zip-with, interconnect, leave-free, one-free-group, near};
+
+// Each pair of the set is connected: each member's word gets the other members.
+pub fn interconnect(links: &mut [u64], set: u64)
+    ensures { λ r. ⌜ now (links .exit) ≡ interconnect set (now (links .entry)) ⌝ }
+{
+    let mut left = set;
+    while left != 0 {
+        let node = nodes::lowest(left);
+        let i = node as usize;
+        if i < links.len() {
+            links[i] = links[i] | nodes::without(set, node);
+        }
+        left = nodes::rest(left);
+    }
+}
+
+// The word stands at each node of the set.
+fn fill(words: &mut [u64], set: u64, word: u64)
+    ensures { λ r. ⌜ now (words .exit) ≡ mapi (λ i w. cond (has set i) word w) 0 (now (words .entry)) ⌝ }
+{
+    let mut left = set;
+    while left != 0 {
+        let i = nodes::lowest(left) as usize;
+        if i < words.len() {
+            words[i] = word;
+        }
+        left = nodes::rest(left);
+    }
+}
+
+// Every word loses the nodes of the set.
+fn take_out(words: &mut [u64], set: u64)
+    ensures { λ r. ⌜ now (words .exit) ≡ mapi (λ i w. diff w set) 0 (now (words .entry)) ⌝ }
+{
+    let mut i: usize = 0;
+    while i < words.len() {
+        words[i] = nodes::diff(words[i], set);
+        i += 1;
+    }
+}
+
+// All nodes of the set leave their free groups together: they have none, and no other word has them.
+pub fn leave_free(free: &mut [u64], set: u64)
+    ensures { λ r. ⌜ now (free .exit) ≡ leave-free set (now (free .entry)) ⌝ }
+{
+    take_out(free, set);
+    fill(free, set, 0);
+}
+
+// The nodes of the set are one free group: it stands in the word of each.
+pub fn one_free_group(free: &mut [u64], set: u64)
+    ensures { λ r. ⌜ now (free .exit) ≡ one-free-group set (now (free .entry)) ⌝ }
+{
+    fill(free, set, set);
+}
+
+// The free group, where its node's connections have a node of the set; else nothing.
+fn near(set: u64, connections: u64, group: u64) -> u64
+    ensures { λ r. ⌜ r ≡ near set connections group ⌝ }
+{
+    if nodes::inter(connections, set) == 0 {
+        0
+    } else {
+        group
+    }
+}
+
+// The nodes of the free groups that have a node connected to one of the set.
+pub fn touched<'a>(links: &'a [u64], free: &'a [u64], set: u64) -> u64
+    ensures { λ r. ⌜ r ≡ union-all (zip-with (near set) (now (links .entry)) (now (free .entry))) ⌝ }
+{
+    let mut all: u64 = 0;
+    let mut i: usize = 0;
+    while i < links.len() {
+        if i == free.len() {
+            return all;
+        }
+        all = all | near(set, links[i], free[i]);
+        i += 1;
+    }
+    all
+}
+
+// The set of the two nodes. A node past 63 is left out.
+pub fn pair(a: u32, b: u32) -> u64
+    ensures { λ r. ⌜ r ≡ with-node (with-node 0 a) b ⌝ }
+{
+    nodes::with(nodes::with(0, a), b)
+}

@@ -1,0 +1,30 @@
+//! An independent model of the s_group table and its script program.
+//!
+//! The model is written from document 01 alone. It keeps the state as sets and
+//! maps and knows the table's layout only in `table` and `sound`, so that it can
+//! be held against the proved library without sharing its structure.
+//!
+//! - `answer`: values and reasons, with their numbers and printed words.
+//! - `command`: the fifteen commands, their arguments and possible reasons.
+//! - `state`: nodes, s_groups and free groups, and when they are well formed.
+//! - `rules`: the opening and the commands, as steps on the state.
+//! - `table`: the 1,220 words of a state, and the state of such words.
+//! - `sound`: soundness, clause by clause, over the words.
+//! - `script`: a script's bytes in, the printed bytes out.
+//! - `compare`: one call on words, answered in plain numbers.
+//! - `prng`, `generate`, `malformed`, `mutate`: random scripts and tables.
+//! - `shrink`: makes a failing script shorter and keeps it as a file.
+
+pub mod answer;
+pub mod command;
+pub mod compare;
+pub mod generate;
+pub mod malformed;
+pub mod mutate;
+pub mod prng;
+pub mod rules;
+pub mod script;
+pub mod shrink;
+pub mod sound;
+pub mod state;
+pub mod table;

@@ -1,0 +1,376 @@
+//! The opening and the fifteen commands as steps on the state. A call's reason
+//! is found by collecting every reason that applies and taking the least.
+//!
+//! The few rules that can be misread are methods of `Rules`. Their given bodies
+//! are document 01's; a test may replace one to show that the wrong reading is
+//! told apart.
+
+use crate::answer::{Answer, Reason, Value};
+use crate::command::{Command, Form};
+use crate::state::{
+    host_of, word_of, NodeSet, SGroup, State, LARGEST_GROUP_NAME, LARGEST_ROSTER, MOST_GROUPS,
+    MOST_NAMES,
+};
+use std::collections::{BTreeMap, BTreeSet};
+
+/// The rules that a wrong reading would change.
+pub trait Rules {
+    /// The reason given when these apply; none stands for the main case.
+    fn choose(&self, applying: &BTreeSet<Reason>) -> Option<Reason> {
+        applying.first().copied()
+    }
+
+    /// Whether a remote lookup that finds nothing leaves its connection.
+    fn link_stays(&self) -> bool {
+        true
+    }
+
+    /// Connects a and b. Two free normal nodes bring their groups together.
+    fn connect(&self, state: &mut State, a: u32, b: u32) {
+        if a == b {
+            return;
+        }
+        match (state.free_group_of(a), state.free_group_of(b)) {
+            (Some(one), Some(other)) => unite(state, &[one, other]),
+            _ => state.link(a, b),
+        }
+    }
+
+    /// Takes all these nodes out of the free groups together; a group left
+    /// empty disappears.
+    fn leave_free_groups(&self, state: &mut State, leaving: &NodeSet) {
+        state.free_groups = state
+            .free_groups
+            .iter()
+            .map(|group| group - leaving)
+            .filter(|group| !group.is_empty())
+            .collect();
+    }
+
+    /// Joins a lot of freed normal nodes with every free group that has a node
+    /// connected to any of the lot.
+    fn join_free_groups(&self, state: &mut State, lot: &NodeSet) {
+        let mut parts = touching_groups(state, lot);
+        parts.push(lot.clone());
+        unite(state, &parts);
+    }
+}
+
+/// The rules as document 01 has them.
+pub struct Law;
+
+impl Rules for Law {}
+
+/// The free groups that have a node connected to any node of the lot.
+pub fn touching_groups(state: &State, lot: &NodeSet) -> Vec<NodeSet> {
+    let touches = |group: &&NodeSet| {
+        group
+            .iter()
+            .any(|a| lot.iter().any(|b| state.connected(*a, *b)))
+    };
+    state.free_groups.iter().filter(touches).cloned().collect()
+}
+
+/// Makes one free group of these parts, with all its nodes connected.
+pub fn unite(state: &mut State, parts: &[NodeSet]) {
+    for part in parts {
+        state.free_groups.remove(part);
+    }
+    let whole: NodeSet = parts.iter().flatten().copied().collect();
+    state.link_all(&whole);
+    state.free_groups.insert(whole);
+}
+
+/// The opening: its answer, and the new state where it is accepted.
+pub fn open(n: u32, hidden: &NodeSet) -> (Answer, Option<State>) {
+    let mut applying = BTreeSet::new();
+    if !(1..=LARGEST_ROSTER).contains(&n) {
+        applying.insert(Reason::RosterSize);
+    }
+    if hidden.iter().any(|node| *node >= n) {
+        applying.insert(Reason::NodeOffRoster);
+    }
+    match applying.first() {
+        Some(reason) => (Answer::error(*reason), None),
+        None => (Answer::main_case(Value::Ok), Some(State::opened(n, hidden))),
+    }
+}
+
+/// One call on a well formed state, with the length of the answer run.
+pub fn call(
+    rules: &dyn Rules,
+    state: &mut State,
+    caller: u32,
+    command: &Command,
+    room: usize,
+) -> Answer {
+    let applying = applying(state, caller, command, room);
+    match rules.choose(&applying) {
+        None => Answer::main_case(step(rules, state, caller, command)),
+        Some(reason) => {
+            if !reason.writes_nothing() && rules.link_stays() {
+                connect_to_asked(rules, state, caller, command);
+            }
+            Answer {
+                value: refused_value(command.form(), reason),
+                reason,
+            }
+        }
+    }
+}
+
+/// Every reason from 4 on that applies to this call.
+pub fn applying(state: &State, caller: u32, command: &Command, room: usize) -> BTreeSet<Reason> {
+    let asked = Asked {
+        state,
+        caller,
+        command,
+        room,
+    };
+    let possible = command.form().reasons().iter().copied();
+    possible.filter(|reason| asked.holds(*reason)).collect()
+}
+
+/// A call, looked at before anything is done.
+struct Asked<'a> {
+    state: &'a State,
+    caller: u32,
+    command: &'a Command,
+    room: usize,
+}
+
+impl Asked<'_> {
+    /// Whether the line of this reason holds for the call.
+    fn holds(&self, reason: Reason) -> bool {
+        match reason {
+            Reason::CallerOffRoster => !self.state.on_roster(self.caller),
+            Reason::GroupNameRange => !self.group_name_in_range(),
+            Reason::ProcessNameZero => self.command.process_name() == Some(0),
+            Reason::NodeOffRoster => self.nodes_given().any(|node| !self.state.on_roster(node)),
+            Reason::NoSuchGroup => !self.names_no_group() && self.group().is_none(),
+            Reason::NotMember => self
+                .group()
+                .is_some_and(|g| !g.members.contains(&self.asker())),
+            Reason::NameHeld => self.group().is_some_and(|g| self.name_held(g)),
+            Reason::PidHeld => self.group().is_some_and(|g| self.pid_held(g)),
+            Reason::NameAbsent => {
+                self.names_no_group() || self.group().is_some_and(|g| !self.name_held(g))
+            }
+            Reason::NamespaceFull => self
+                .group()
+                .is_some_and(|g| g.names.len() >= MOST_NAMES && !self.name_held(g)),
+            Reason::CallerNotInSet => self
+                .command
+                .set()
+                .is_some_and(|s| !s.contains(&self.caller)),
+            Reason::GroupNameInUse => self.group().is_some(),
+            Reason::GroupsFull => self.state.s_groups.len() >= MOST_GROUPS,
+            Reason::ShortRun => self.list_length() > self.room,
+            Reason::MainCase | Reason::RunLength | Reason::RosterSize | Reason::Unsound => false,
+        }
+    }
+
+    /// Zero is a name that the remote forms take.
+    fn group_name_in_range(&self) -> bool {
+        self.names_no_group()
+            || self
+                .command
+                .s_group()
+                .is_none_or(|s| (1..=LARGEST_GROUP_NAME).contains(&s))
+    }
+
+    /// Whether a remote form is asked with s_group zero.
+    fn names_no_group(&self) -> bool {
+        self.command.asked_node().is_some() && self.command.s_group() == Some(0)
+    }
+
+    fn group(&self) -> Option<&SGroup> {
+        self.command
+            .s_group()
+            .and_then(|name| self.state.s_groups.get(&name))
+    }
+
+    /// The node whose membership counts.
+    fn asker(&self) -> u32 {
+        self.command.asked_node().unwrap_or(self.caller)
+    }
+
+    fn name_held(&self, group: &SGroup) -> bool {
+        self.command
+            .process_name()
+            .is_some_and(|n| group.names.contains_key(&n))
+    }
+
+    fn pid_held(&self, group: &SGroup) -> bool {
+        self.command.pid().is_some_and(|p| group.holds_pid(p))
+    }
+
+    /// The nodes given besides the caller, a given pid's host among them.
+    fn nodes_given(&self) -> impl Iterator<Item = u32> + '_ {
+        let set = self.command.set().into_iter().flatten().copied();
+        let host = self.command.pid().map(host_of);
+        set.chain(host).chain(self.command.asked_node())
+    }
+
+    /// The number of words in the list that the call would answer.
+    fn list_length(&self) -> usize {
+        match self.command {
+            Command::RegisteredNames { .. } => match self.group() {
+                Some(group) if group.members.contains(&self.caller) => group.names.len(),
+                _ => 0,
+            },
+            Command::OwnSGroups => 2 * self.state.group_names(self.caller).len(),
+            _ => 0,
+        }
+    }
+}
+
+/// The value that stands beside a reason other than 0.
+fn refused_value(form: Form, reason: Reason) -> Value {
+    match reason {
+        Reason::NoSuchGroup | Reason::NotMember => outsider_value(form),
+        Reason::NameHeld | Reason::PidHeld | Reason::NamespaceFull => Value::False,
+        Reason::NameAbsent if form == Form::UnregisterName => Value::True,
+        Reason::NameAbsent => Value::Undefined,
+        _ => Value::Error,
+    }
+}
+
+/// The value under reasons 8 and 9.
+fn outsider_value(form: Form) -> Value {
+    match form {
+        Form::RegisterName | Form::ReRegisterName | Form::UnregisterName => Value::False,
+        Form::RegisteredNames => Value::List(Vec::new()),
+        Form::WhereisName | Form::WhereisNameAt => Value::Undefined,
+        Form::SendPid | Form::SendName | Form::SendNameAt => Value::Undefined,
+        _ => Value::Error,
+    }
+}
+
+/// The step of the main case, with its value.
+fn step(rules: &dyn Rules, state: &mut State, caller: u32, command: &Command) -> Value {
+    connect_to_asked(rules, state, caller, command);
+    match command {
+        Command::RegisterName { s, n, p } | Command::ReRegisterName { s, n, p } => {
+            names_of(state, *s).insert(*n, *p);
+            Value::True
+        }
+        Command::UnregisterName { s, n } => {
+            names_of(state, *s).remove(n);
+            Value::True
+        }
+        Command::RegisteredNames { s } => registered_names(state, *s),
+        Command::WhereisName { s, n } | Command::WhereisNameAt { s, n, .. } => {
+            Value::Pid(names_of(state, *s)[n])
+        }
+        Command::SendPid { p } => send(rules, state, caller, *p),
+        Command::SendName { s, n } | Command::SendNameAt { s, n, .. } => {
+            let pid = names_of(state, *s)[n];
+            send(rules, state, caller, pid)
+        }
+        Command::NewSGroup { s, set } => new_s_group(rules, state, *s, set),
+        Command::AddNodes { s, set } => add_nodes(rules, state, caller, *s, set),
+        Command::RemoveNodes { s, set } => remove_nodes(rules, state, *s, set),
+        Command::DeleteSGroup { s } => delete_s_group(rules, state, *s),
+        Command::OwnNodes => Value::Nodes(own_nodes(state, caller)),
+        Command::OwnSGroups => own_s_groups(state, caller),
+    }
+}
+
+/// The first connection of the remote forms; the other forms have none.
+fn connect_to_asked(rules: &dyn Rules, state: &mut State, caller: u32, command: &Command) {
+    if let Some(at) = command.asked_node() {
+        rules.connect(state, caller, at);
+    }
+}
+
+/// The namespace of an s_group that is known to be there.
+fn names_of(state: &mut State, s: u32) -> &mut BTreeMap<u32, u32> {
+    let group = state.s_groups.get_mut(&s).expect("reason 8 is ruled out");
+    &mut group.names
+}
+
+fn registered_names(state: &mut State, s: u32) -> Value {
+    let entry = |n: &u32| (u64::from(s) << 32) + u64::from(*n);
+    Value::List(names_of(state, s).keys().map(entry).collect())
+}
+
+fn send(rules: &dyn Rules, state: &mut State, caller: u32, pid: u32) -> Value {
+    rules.connect(state, caller, host_of(pid));
+    Value::Pid(pid)
+}
+
+fn new_s_group(rules: &dyn Rules, state: &mut State, s: u32, set: &NodeSet) -> Value {
+    state.link_all(set);
+    let group = SGroup {
+        members: set.clone(),
+        names: BTreeMap::new(),
+    };
+    state.s_groups.insert(s, group);
+    rules.leave_free_groups(state, set);
+    Value::Group(s, set.clone())
+}
+
+fn add_nodes(rules: &dyn Rules, state: &mut State, caller: u32, s: u32, set: &NodeSet) -> Value {
+    let group = state.s_groups.get_mut(&s).expect("reason 8 is ruled out");
+    group.members.extend(set);
+    let mut linked = group.members.clone();
+    linked.insert(caller);
+    state.link_all(&linked);
+    rules.leave_free_groups(state, set);
+    Value::Group(s, set.clone())
+}
+
+fn remove_nodes(rules: &dyn Rules, state: &mut State, s: u32, set: &NodeSet) -> Value {
+    let group = state.s_groups.get_mut(&s).expect("reason 8 is ruled out");
+    let leaving = &group.members & set;
+    group.members = &group.members - set;
+    if group.members.is_empty() {
+        state.s_groups.remove(&s);
+    }
+    become_free(rules, state, &leaving);
+    Value::True
+}
+
+fn delete_s_group(rules: &dyn Rules, state: &mut State, s: u32) -> Value {
+    let group = state.s_groups.remove(&s).expect("reason 8 is ruled out");
+    become_free(rules, state, &group.members);
+    Value::True
+}
+
+/// Of the nodes that just left a group, the normal ones now in no s_group join
+/// the free groups as one lot. Hidden ones stand alone, which needs no step.
+fn become_free(rules: &dyn Rules, state: &mut State, left: &NodeSet) {
+    let lot: NodeSet = left
+        .iter()
+        .copied()
+        .filter(|node| state.is_normal(*node) && state.in_no_s_group(*node))
+        .collect();
+    if !lot.is_empty() {
+        rules.join_free_groups(state, &lot);
+    }
+}
+
+/// The free normal group, or the node alone if hidden and free, or the union of
+/// the members of its s_groups.
+fn own_nodes(state: &State, caller: u32) -> NodeSet {
+    let names = state.group_names(caller);
+    if !names.is_empty() {
+        let members = names.iter().flat_map(|name| &state.s_groups[name].members);
+        return members.copied().collect();
+    }
+    state
+        .free_group_of(caller)
+        .unwrap_or_else(|| NodeSet::from([caller]))
+}
+
+fn own_s_groups(state: &State, caller: u32) -> Value {
+    let pair = |name: u32| [u64::from(name), word_of(&state.s_groups[&name].members)];
+    Value::List(
+        state
+            .group_names(caller)
+            .into_iter()
+            .flat_map(pair)
+            .collect(),
+    )
+}

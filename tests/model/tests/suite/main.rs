@@ -1,0 +1,13 @@
+//! The tests of the model, in one program so that it is built once.
+
+mod compared;
+mod edges;
+mod feel;
+mod generators;
+mod helpers;
+mod lines;
+mod programs;
+mod runs;
+mod soundness;
+mod steps;
+mod wrong_readings;

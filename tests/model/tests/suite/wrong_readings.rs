@@ -1,0 +1,193 @@
+//! The five readings that look right, each as other rules for the model, and a
+//! script that tells each of them apart from 01.
+
+use crate::helpers::{printed_under, request};
+use model::answer::Reason;
+use model::rules::{touching_groups, unite, Law, Rules};
+use model::script::Session;
+use model::state::{NodeSet, State};
+use std::collections::BTreeSet;
+
+/// What a script prints under 01 and under a wrong reading.
+fn told_apart(wrong: &dyn Rules, script: &[(&str, &str, &str)]) {
+    let lines: Vec<&str> = script.iter().map(|(line, _, _)| *line).collect();
+    let by_law: Vec<&str> = script.iter().map(|(_, law, _)| *law).collect();
+    let by_wrong: Vec<&str> = script.iter().map(|(_, _, wrong)| *wrong).collect();
+    assert_eq!(printed_under(&Law, &lines), by_law);
+    assert_eq!(printed_under(wrong, &lines), by_wrong);
+    assert_ne!(by_law, by_wrong);
+}
+
+/// Takes nodes out of a free group one by one, each from the whole group.
+struct OneByOne;
+
+impl Rules for OneByOne {
+    fn leave_free_groups(&self, state: &mut State, leaving: &NodeSet) {
+        let mut left = BTreeSet::new();
+        for group in &state.free_groups {
+            let going = group & leaving;
+            if going.is_empty() {
+                left.insert(group.clone());
+            }
+            for node in going {
+                left.insert(group - &NodeSet::from([node]));
+            }
+        }
+        left.remove(&NodeSet::new());
+        state.free_groups = left;
+    }
+}
+
+#[test]
+fn leaving_one_by_one_is_told_apart() {
+    told_apart(
+        &OneByOne,
+        &[
+            ("open 3 0", "ok 0", "ok 0"),
+            ("0 send 67108864", "pid 67108864 0", "pid 67108864 0"),
+            ("0 send 134217728", "pid 134217728 0", "pid 134217728 0"),
+            ("2 own_nodes", "nodes 7 3 0", "nodes 7 3 0"),
+            ("0 new_s_group 5 3", "group 5 3 0", "group 5 3 0"),
+            ("2 own_nodes", "nodes 4 1 0", "nodes 5 2 0"),
+        ],
+    );
+}
+
+/// Joins freed nodes with the first connected free group only.
+struct FirstGroupOnly;
+
+impl Rules for FirstGroupOnly {
+    fn join_free_groups(&self, state: &mut State, lot: &NodeSet) {
+        let mut parts = touching_groups(state, lot);
+        parts.truncate(1);
+        parts.push(lot.clone());
+        unite(state, &parts);
+    }
+}
+
+#[test]
+fn joining_the_first_group_only_is_told_apart() {
+    told_apart(
+        &FirstGroupOnly,
+        &[
+            ("open 5 8", "ok 0", "ok 0"),
+            ("0 new_s_group 5 3", "group 5 3 0", "group 5 3 0"),
+            ("2 whereis_name 0 5 70", "undefined 12", "undefined 12"),
+            ("4 whereis_name 0 5 70", "undefined 12", "undefined 12"),
+            ("2 own_nodes", "nodes 4 1 0", "nodes 4 1 0"),
+            ("4 own_nodes", "nodes 16 1 0", "nodes 16 1 0"),
+            ("1 delete_s_group 5", "true 0", "true 0"),
+            ("1 own_nodes", "nodes 23 4 0", "nodes 7 3 0"),
+            ("4 own_nodes", "nodes 23 4 0", "nodes 16 1 0"),
+        ],
+    );
+}
+
+/// Lets a free node's link to an s_group node or a hidden node merge groups.
+struct EveryLinkMerges;
+
+impl Rules for EveryLinkMerges {
+    fn connect(&self, state: &mut State, a: u32, b: u32) {
+        let parts = [a, b].map(|node| state.free_group_of(node));
+        if a == b || parts == [None, None] {
+            return Law.connect(state, a, b);
+        }
+        let whole = [a, b].map(|node| state.free_group_of(node).unwrap_or(NodeSet::from([node])));
+        unite(state, &whole);
+    }
+}
+
+#[test]
+fn merging_over_an_s_group_node_is_told_apart() {
+    told_apart(
+        &EveryLinkMerges,
+        &[
+            ("open 4 8", "ok 0", "ok 0"),
+            ("0 new_s_group 5 3", "group 5 3 0", "group 5 3 0"),
+            ("2 whereis_name 0 5 70", "undefined 12", "undefined 12"),
+            ("2 own_nodes", "nodes 4 1 0", "nodes 5 2 0"),
+        ],
+    );
+}
+
+#[test]
+fn merging_over_a_hidden_node_is_told_apart() {
+    told_apart(
+        &EveryLinkMerges,
+        &[
+            ("open 4 8", "ok 0", "ok 0"),
+            ("2 send 201326592", "pid 201326592 0", "pid 201326592 0"),
+            ("2 own_nodes", "nodes 4 1 0", "nodes 12 2 0"),
+            ("3 own_nodes", "nodes 8 1 0", "nodes 12 2 0"),
+        ],
+    );
+}
+
+/// Undoes the connection when the name isn't found.
+struct LinkUndone;
+
+impl Rules for LinkUndone {
+    fn link_stays(&self) -> bool {
+        false
+    }
+}
+
+#[test]
+fn undoing_the_connection_is_told_apart() {
+    told_apart(
+        &LinkUndone,
+        &[
+            ("open 4 8", "ok 0", "ok 0"),
+            ("2 whereis_name 0 9 70", "undefined 8", "undefined 8"),
+            ("2 own_nodes", "nodes 5 2 0", "nodes 4 1 0"),
+            ("1 send 2 0 70", "undefined 12", "undefined 12"),
+            ("1 own_nodes", "nodes 7 3 0", "nodes 2 1 0"),
+        ],
+    );
+}
+
+#[test]
+fn undoing_the_connection_to_a_hidden_node_shows_in_the_table() {
+    let connected = |rules: &dyn Rules| {
+        let mut session = Session::new(rules);
+        session.answer(&request("open 4 8"));
+        session.answer(&request("2 whereis_name 3 9 70"));
+        session.state.expect("opened").connected(2, 3)
+    };
+    assert!(connected(&Law));
+    assert!(!connected(&LinkUndone));
+}
+
+/// Tests the name before the membership.
+struct NameFirst;
+
+impl Rules for NameFirst {
+    fn choose(&self, applying: &BTreeSet<Reason>) -> Option<Reason> {
+        let about_the_name = [Reason::NameHeld, Reason::PidHeld, Reason::NameAbsent];
+        let least = applying.first().copied()?;
+        let told = applying
+            .iter()
+            .find(|reason| about_the_name.contains(reason));
+        match (least, told) {
+            (Reason::NotMember, Some(reason)) => Some(*reason),
+            _ => Some(least),
+        }
+    }
+}
+
+#[test]
+fn testing_the_name_first_is_told_apart() {
+    told_apart(
+        &NameFirst,
+        &[
+            ("open 4 8", "ok 0", "ok 0"),
+            ("0 new_s_group 5 3", "group 5 3 0", "group 5 3 0"),
+            ("0 register_name 5 70 1", "true 0", "true 0"),
+            ("2 whereis_name 5 70", "undefined 9", "undefined 9"),
+            ("2 whereis_name 5 71", "undefined 9", "undefined 12"),
+            ("2 register_name 5 70 2", "false 9", "false 10"),
+            ("2 unregister_name 5 71", "false 9", "true 12"),
+            ("0 whereis_name 2 5 71", "undefined 9", "undefined 12"),
+        ],
+    );
+}

@@ -5,14 +5,18 @@ ghost use lib.ListN.{length};
 ghost use Rattle.semantics.specs.Sizes.{group-limit, names-per-group, table-words};
 ghost use Rattle.semantics.specs.Test.{sound};
 ghost use Rattle.table.specs.Tests.{head-right, unused-zero, loose-in, parts-right};
+
 mod groups;
+
 use wiring::tests::all_zero;
 use wiring::tests::free_sound;
 use wiring::tests::links_sound;
 
 // How much there can be: nodes on a roster, s_groups, names in an s_group.
 pub const NODE_LIMIT: usize = 64;
+
 pub const GROUP_LIMIT: usize = 32;
+
 pub const NAMES_PER_GROUP: usize = 32;
 
 // S_group names lie below this; a contents word holds the count of names above the name.
@@ -20,15 +24,22 @@ pub const GROUP_NAMES: u64 = 65536;
 
 // The head: roster size, hidden nodes, number of s_groups, zero.
 pub const SIZE_AT: usize = 0;
+
 pub const HIDDEN_AT: usize = 1;
+
 pub const COUNT_AT: usize = 2;
+
 pub const SPARE_AT: usize = 3;
 
 // Where the parts begin: contents and members, a word an s_group; connections and free groups, a word a node; the names.
 pub const CONTENTS_AT: usize = 4;
+
 pub const MEMBERS_AT: usize = CONTENTS_AT + GROUP_LIMIT;
+
 pub const LINKS_AT: usize = MEMBERS_AT + GROUP_LIMIT;
+
 pub const FREE_AT: usize = LINKS_AT + NODE_LIMIT;
+
 pub const BODIES_AT: usize = FREE_AT + NODE_LIMIT;
 
 // How many words a table has.
@@ -55,7 +66,8 @@ fn unused_zero(t: &[u64], g: usize) -> bool
     let contents = CONTENTS_AT + g;
     let members = MEMBERS_AT + g;
     let bodies = BODIES_AT + NAMES_PER_GROUP * g;
-    all_zero(&t[contents..MEMBERS_AT]) & (all_zero(&t[members..LINKS_AT]) & all_zero(&t[bodies..TABLE_WORDS]))
+    all_zero(&t[contents..MEMBERS_AT])
+        & (all_zero(&t[members..LINKS_AT]) & all_zero(&t[bodies..TABLE_WORDS]))
 }
 
 // The normal nodes of the roster in no s_group.
@@ -77,7 +89,12 @@ fn parts_sound(t: &[u64], g: usize, n: u32) -> bool
     let unused = unused_zero(t, g);
     let links = links_sound(&t[LINKS_AT..FREE_AT], n);
     let met = groups::members_met(t, g);
-    let free = free_sound(&t[LINKS_AT..FREE_AT], &t[FREE_AT..BODIES_AT], loose(t, g, n), n);
+    let free = free_sound(
+        &t[LINKS_AT..FREE_AT],
+        &t[FREE_AT..BODIES_AT],
+        loose(t, g, n),
+        n,
+    );
     let names = groups::names_sound(t, g, n);
     contents & (members & (unused & (links & (met & (free & names)))))
 }

@@ -3,3 +3,4 @@ pub mod Below
 pub mod NamesReading
 pub mod Reading
 pub mod Verdict
+pub mod Opening

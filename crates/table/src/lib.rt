@@ -4,10 +4,17 @@ ghost use Prim.Native.Nat.{_≤_};
 ghost use lib.ListN.{length};
 ghost use Rattle.semantics.specs.Sizes.{group-limit, names-per-group, table-words};
 ghost use Rattle.semantics.specs.Test.{sound};
+ghost use Rattle.semantics.specs.Steps.{answer-of};
+ghost use Rattle.semantics.specs.Call.{opening};
+ghost use Rattle.semantics.specs.declared.Value.the-variants.{Error};
 ghost use Rattle.table.specs.Tests.{head-right, unused-zero, loose-in, parts-right};
 
+mod fresh;
 mod groups;
 
+use semantics::Answer;
+use semantics::Reason;
+use semantics::Value;
 use wiring::tests::all_zero;
 use wiring::tests::free_sound;
 use wiring::tests::links_sound;
@@ -112,4 +119,44 @@ pub fn is_sound(t: &[u64]) -> bool
         return parts_sound(t, count as usize, size as u32);
     }
     false
+}
+
+// Error, for a reason.
+fn refusal(reason: Reason) -> Answer
+    ensures { λ r. ⌜ r ≡ answer-of Error reason ⌝ }
+{
+    Answer {
+        value: Value::Error,
+        reason: reason,
+    }
+}
+
+// Opens the table for n nodes, some of them hidden: no s_groups, no connections, each normal node alone in its free group.
+pub fn open(t: &mut [u64], n: u32, hidden: u64) -> Answer
+    ensures { λ r. ⌜ r ≡ opening n hidden (now (t .entry)) .answer ⌝ }
+    ensures { λ _. ⌜ now (t .exit) ≡ opening n hidden (now (t .entry)) .table ⌝ }
+{
+    if t.len() != TABLE_WORDS {
+        return refusal(Reason::TableLength);
+    }
+    if n < 1 {
+        return refusal(Reason::RosterSize);
+    }
+    if NODE_LIMIT < n as usize {
+        return refusal(Reason::RosterSize);
+    }
+    if nodes::beyond(hidden, n) {
+        return refusal(Reason::NodeUnknown);
+    }
+    fresh::clear(t);
+    t[SIZE_AT] = n as u64;
+    t[HIDDEN_AT] = hidden;
+    fresh::alone(
+        &mut t[FREE_AT..BODIES_AT],
+        nodes::diff(nodes::roster(n), hidden),
+    );
+    Answer {
+        value: Value::Ok,
+        reason: Reason::Done,
+    }
 }

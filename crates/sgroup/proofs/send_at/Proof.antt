@@ -1,0 +1,43 @@
+-- `sgroup::send_at` meets its contract: on a sound table its step does, and any other run is refused.
+-- Assumes nothing.
+use borrow.Author.Needs.{needs}
+use mathlib.Core.Path.{sym, _∙_}
+use Rattle.semantics.specs.Steps.{send-at}
+use Rattle.sgroup.specs.Unfit.{sound-run, says-unfit}
+use Rattle.sgroup.proofs.send_at.Statement.{statement}
+use Rattle.sgroup.proofs.send_at.Tie as tie
+
+is-sound-requires : tie.Need-is-sound-requires
+is-sound-requires c κs = search needs
+
+send-at-requires : tie.Need-send-at-requires
+send-at-requires c κs = sound-run (c .before .before .before .before .before .args .table .now) (sym (c .before .before .is-sound .ensures) ∙ c .before .if1 .taken)
+
+same-length : tie.Need-same-length
+same-length c = search needs
+
+returns : tie.Need-returns
+returns c = search needs
+
+unfit-requires : tie.Need-unfit-requires
+unfit-requires c κs = search needs
+
+same-length-2 : tie.Need-same-length-2
+same-length-2 c = search needs
+
+returns-2 : tie.Need-returns-2
+returns-2 c =
+    let a = c .before .before .before .before .before .before .args in
+    says-unfit 0 (a .caller) (send-at (a .node) (a .s) (a .n)) (a .table .now) (c .unfit .result) (sym (c .before .before .before .is-sound .ensures) ∙ c .before .before .if1 .left) (c .unfit .ensures)
+
+pub send-at-spec : {M : Type 1} → statement M
+send-at-spec =
+    tie.close
+    (tie.spec
+    is-sound-requires
+    send-at-requires
+    same-length
+    returns
+    unfit-requires
+    same-length-2
+    returns-2)

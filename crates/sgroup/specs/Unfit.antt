@@ -1,0 +1,22 @@
+-- What a public call has to show before its step, and where its run is no sound table. Assumes nothing.
+use mathlib.Core.Path.{_≡_, sym, subst}
+use mathlib.Core.Bool.{true, false}
+use mathlib.Core.List.{List}
+use Prim.Native.Nat.{ℕ}
+use lib.ListN.{length}
+use Rattle.semantics.specs.Sizes.{names-per-group, table-words}
+use Rattle.semantics.specs.Steps.{Command, answer-of}
+use Rattle.semantics.specs.Test.{sound}
+use Rattle.semantics.specs.Calls.{why}
+use Rattle.semantics.specs.Agree.{test-regular}
+use Rattle.semantics.specs.declared.Answer.{Answer}
+use Rattle.semantics.specs.declared.Value.the-variants.{Error}
+use Rattle.sgroup.specs.Calls.{Says, says-unsound}
+
+-- what a step asks for
+pub sound-run : (t : List ℕ) → sound names-per-group t ≡ true → (length t ≡ table-words names-per-group) × (sound names-per-group t ≡ true)
+sound-run t ok = (test-regular names-per-group t ok .2, ok)
+
+-- a refusal leaves every word
+pub says-unfit : (room i : ℕ) (c : Command) (t : List ℕ) (a : Answer) → sound names-per-group t ≡ false → a ≡ answer-of Error (why t) → Says room i c t a t
+says-unfit room i c t a h e = subst (λ (x : Answer). Says room i c t x t) (sym e) (says-unsound room i c t h)

@@ -1,0 +1,66 @@
+// S_groups put into a table, taken out, and given other members.
+use table::BODIES_AT;
+use table::CONTENTS_AT;
+use table::COUNT_AT;
+use table::LINKS_AT;
+use table::MEMBERS_AT;
+use table::NAMES_PER_GROUP;
+use table::TABLE_WORDS;
+ghost use mathlib.Core.Path.{_≡_};
+ghost use mathlib.Core.List.{List, _∷_, _++_};
+ghost use Prim.Native.Nat.{_≤_, _<_};
+ghost use lib.ListN.{length, getD};
+ghost use Rattle.semantics.specs.Sizes.{group-limit, names-per-group, table-words};
+ghost use Rattle.semantics.specs.State.{Group, State, with-groups};
+ghost use Rattle.semantics.specs.Laid.{Laid};
+ghost use Rattle.sgroup.specs.Grouped.{fresh, manned};
+use super::gaps::close_gap;
+use super::gaps::open_gap;
+
+// A new s_group of no names goes in at the place: the s_groups from there on move up.
+pub fn insert_group(t: &mut [u64], at: usize, s: u32, set: u64)
+    requires { ⌜ length (now t) ≡ table-words names-per-group ⌝ }
+    requires { ⌜ getD (now t) 2 0 < group-limit ⌝ }
+    requires { ⌜ at ≤ getD (now t) 2 0 ⌝ }
+    ensures { λ _. ⌜ ((st : State) → Laid names-per-group st (now (t .entry)) → (a b : List Group) → st .groups ≡ a ++ b → length a ≡ at → Laid names-per-group (with-groups (a ++ fresh s set ∷ b) st) (now (t .exit))) ⌝ }
+{
+    let count = t[COUNT_AT] as usize;
+    open_gap(&mut t[CONTENTS_AT..MEMBERS_AT], at, count, 1, s as u64);
+    open_gap(&mut t[MEMBERS_AT..LINKS_AT], at, count, 1, set);
+    open_gap(
+        &mut t[BODIES_AT..TABLE_WORDS],
+        NAMES_PER_GROUP * at,
+        NAMES_PER_GROUP * count,
+        NAMES_PER_GROUP,
+        0,
+    );
+    t[COUNT_AT] = (count + 1) as u64;
+}
+
+// The s_group at the place goes, with its names: those after it move down, and zeros follow.
+pub fn delete_group(t: &mut [u64], at: usize)
+    requires { ⌜ length (now t) ≡ table-words names-per-group ⌝ }
+    requires { ⌜ getD (now t) 2 0 ≤ group-limit ⌝ }
+    requires { ⌜ at < getD (now t) 2 0 ⌝ }
+    ensures { λ _. ⌜ ((st : State) → Laid names-per-group st (now (t .entry)) → (a b : List Group) (g : Group) → st .groups ≡ a ++ g ∷ b → length a ≡ at → Laid names-per-group (with-groups (a ++ b) st) (now (t .exit))) ⌝ }
+{
+    let count = t[COUNT_AT] as usize;
+    close_gap(&mut t[CONTENTS_AT..MEMBERS_AT], at, count, 1);
+    close_gap(&mut t[MEMBERS_AT..LINKS_AT], at, count, 1);
+    close_gap(
+        &mut t[BODIES_AT..TABLE_WORDS],
+        NAMES_PER_GROUP * at,
+        NAMES_PER_GROUP * count,
+        NAMES_PER_GROUP,
+    );
+    t[COUNT_AT] = (count - 1) as u64;
+}
+
+// The s_group at the place has the set as its members.
+pub fn set_members(t: &mut [u64], at: usize, set: u64)
+    requires { ⌜ length (now t) ≡ table-words names-per-group ⌝ }
+    requires { ⌜ at < group-limit ⌝ }
+    ensures { λ _. ⌜ ((st : State) → Laid names-per-group st (now (t .entry)) → (a b : List Group) (g : Group) → st .groups ≡ a ++ g ∷ b → length a ≡ at → Laid names-per-group (with-groups (a ++ manned set g ∷ b) st) (now (t .exit))) ⌝ }
+{
+    t[MEMBERS_AT + at] = set;
+}

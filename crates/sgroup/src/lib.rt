@@ -1,0 +1,157 @@
+// The fifteen commands over a lent table.
+use semantics::Answer;
+use semantics::Reason;
+use semantics::Value;
+use table::TABLE_WORDS;
+ghost use mathlib.Core.Path.{_≡_};
+ghost use Rattle.semantics.specs.Steps.{answer-of, within, register-name, re-register-name, unregister-name, new-s-group, add-nodes, whereis-name-at, send, send-name, send-at, remove-nodes, delete-s-group};
+ghost use Rattle.semantics.specs.Call.{call};
+ghost use Rattle.semantics.specs.Calls.{why};
+ghost use Rattle.semantics.specs.declared.Value.the-variants.{Error};
+
+mod gaps;
+mod grouping;
+mod groups;
+mod judge;
+mod names;
+mod naming;
+mod place;
+mod reaching;
+mod wires;
+
+// The answer where the run is no sound table: its length is wrong, or it is unsound.
+fn unfit(table: &[u64]) -> Answer
+    ensures { λ r. ⌜ r ≡ answer-of Error (why (now (table .entry))) ⌝ }
+{
+    if table.len() == TABLE_WORDS {
+        return Answer {
+            value: Value::Error,
+            reason: Reason::Unsound,
+        };
+    }
+    Answer {
+        value: Value::Error,
+        reason: Reason::TableLength,
+    }
+}
+
+// Registers the pid under the name in the s_group.
+pub fn register_name(table: &mut [u64], caller: u32, s: u32, n: u32, p: u32) -> Answer
+    ensures { λ r. ⌜ r ≡ call 0 caller (within (register-name s n p)) (now (table .entry)) .answer ⌝ }
+    ensures { λ _. ⌜ now (table .exit) ≡ call 0 caller (within (register-name s n p)) (now (table .entry)) .table ⌝ }
+{
+    if table::is_sound(table) {
+        return naming::register_name(table, caller, s, n, p);
+    }
+    unfit(table)
+}
+
+// Registers the pid under the name in the s_group, in place of the one that the name had.
+pub fn re_register_name(table: &mut [u64], caller: u32, s: u32, n: u32, p: u32) -> Answer
+    ensures { λ r. ⌜ r ≡ call 0 caller (within (re-register-name s n p)) (now (table .entry)) .answer ⌝ }
+    ensures { λ _. ⌜ now (table .exit) ≡ call 0 caller (within (re-register-name s n p)) (now (table .entry)) .table ⌝ }
+{
+    if table::is_sound(table) {
+        return naming::re_register_name(table, caller, s, n, p);
+    }
+    unfit(table)
+}
+
+// Takes the name out of the s_group's namespace.
+pub fn unregister_name(table: &mut [u64], caller: u32, s: u32, n: u32) -> Answer
+    ensures { λ r. ⌜ r ≡ call 0 caller (within (unregister-name s n)) (now (table .entry)) .answer ⌝ }
+    ensures { λ _. ⌜ now (table .exit) ≡ call 0 caller (within (unregister-name s n)) (now (table .entry)) .table ⌝ }
+{
+    if table::is_sound(table) {
+        return naming::unregister_name(table, caller, s, n);
+    }
+    unfit(table)
+}
+
+// What the node finds under the name in the s_group; the caller connects with the node.
+pub fn whereis_name_at(table: &mut [u64], caller: u32, node: u32, s: u32, n: u32) -> Answer
+    ensures { λ r. ⌜ r ≡ call 0 caller (whereis-name-at node s n) (now (table .entry)) .answer ⌝ }
+    ensures { λ _. ⌜ now (table .exit) ≡ call 0 caller (whereis-name-at node s n) (now (table .entry)) .table ⌝ }
+{
+    if table::is_sound(table) {
+        return reaching::whereis_name_at(table, caller, node, s, n);
+    }
+    unfit(table)
+}
+
+// The caller sends to the pid, and connects with its host.
+pub fn send(table: &mut [u64], caller: u32, p: u32) -> Answer
+    ensures { λ r. ⌜ r ≡ call 0 caller (send p) (now (table .entry)) .answer ⌝ }
+    ensures { λ _. ⌜ now (table .exit) ≡ call 0 caller (send p) (now (table .entry)) .table ⌝ }
+{
+    if table::is_sound(table) {
+        return reaching::send(table, caller, p);
+    }
+    unfit(table)
+}
+
+// The caller sends to the pid that it finds under the name in the s_group.
+pub fn send_name(table: &mut [u64], caller: u32, s: u32, n: u32) -> Answer
+    ensures { λ r. ⌜ r ≡ call 0 caller (send-name s n) (now (table .entry)) .answer ⌝ }
+    ensures { λ _. ⌜ now (table .exit) ≡ call 0 caller (send-name s n) (now (table .entry)) .table ⌝ }
+{
+    if table::is_sound(table) {
+        return reaching::send_name(table, caller, s, n);
+    }
+    unfit(table)
+}
+
+// The caller sends to the pid that the node finds under the name in the s_group.
+pub fn send_at(table: &mut [u64], caller: u32, node: u32, s: u32, n: u32) -> Answer
+    ensures { λ r. ⌜ r ≡ call 0 caller (send-at node s n) (now (table .entry)) .answer ⌝ }
+    ensures { λ _. ⌜ now (table .exit) ≡ call 0 caller (send-at node s n) (now (table .entry)) .table ⌝ }
+{
+    if table::is_sound(table) {
+        return reaching::send_at(table, caller, node, s, n);
+    }
+    unfit(table)
+}
+
+// A new s_group of the set.
+pub fn new_s_group(table: &mut [u64], caller: u32, s: u32, set: u64) -> Answer
+    ensures { λ r. ⌜ r ≡ call 0 caller (within (new-s-group s set)) (now (table .entry)) .answer ⌝ }
+    ensures { λ _. ⌜ now (table .exit) ≡ call 0 caller (within (new-s-group s set)) (now (table .entry)) .table ⌝ }
+{
+    if table::is_sound(table) {
+        return grouping::new_s_group(table, caller, s, set);
+    }
+    unfit(table)
+}
+
+// The set joins the s_group.
+pub fn add_nodes(table: &mut [u64], caller: u32, s: u32, set: u64) -> Answer
+    ensures { λ r. ⌜ r ≡ call 0 caller (within (add-nodes s set)) (now (table .entry)) .answer ⌝ }
+    ensures { λ _. ⌜ now (table .exit) ≡ call 0 caller (within (add-nodes s set)) (now (table .entry)) .table ⌝ }
+{
+    if table::is_sound(table) {
+        return grouping::add_nodes(table, caller, s, set);
+    }
+    unfit(table)
+}
+
+// The members of the set leave the s_group.
+pub fn remove_nodes(table: &mut [u64], caller: u32, s: u32, set: u64) -> Answer
+    ensures { λ r. ⌜ r ≡ call 0 caller (remove-nodes s set) (now (table .entry)) .answer ⌝ }
+    ensures { λ _. ⌜ now (table .exit) ≡ call 0 caller (remove-nodes s set) (now (table .entry)) .table ⌝ }
+{
+    if table::is_sound(table) {
+        return grouping::remove_nodes(table, caller, s, set);
+    }
+    unfit(table)
+}
+
+// The s_group goes, with its names.
+pub fn delete_s_group(table: &mut [u64], caller: u32, s: u32) -> Answer
+    ensures { λ r. ⌜ r ≡ call 0 caller (delete-s-group s) (now (table .entry)) .answer ⌝ }
+    ensures { λ _. ⌜ now (table .exit) ≡ call 0 caller (delete-s-group s) (now (table .entry)) .table ⌝ }
+{
+    if table::is_sound(table) {
+        return grouping::delete_s_group(table, caller, s);
+    }
+    unfit(table)
+}

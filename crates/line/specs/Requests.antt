@@ -1,0 +1,72 @@
+-- The request that a line is. Assumes nothing.
+use mathlib.Core.Bool.{Bool, cond}
+use mathlib.Core.List.{List, []}
+use Prim.Native.Nat.{ℕ, _-_}
+use lib.Dec.{eqb, leb}
+use lib.ListN.{length, getD}
+use Rattle.semantics.specs.Test.{same}
+use Rattle.line.specs.Text.{bytes, fields}
+use Rattle.line.specs.Numbers.{numeral, narrow}
+use Rattle.line.specs.Commands.{number-of, takes-set}
+use Rattle.line.specs.declared.number.Number.{Number}
+use Rattle.line.specs.declared.number.Number.the-variants as Number
+use Rattle.line.specs.declared.number.Half.{Half}
+use Rattle.line.specs.declared.number.Half.the-variants as Half
+use Rattle.line.specs.declared.Request.{Request}
+use Rattle.line.specs.declared.Request.the-variants.{Open, Command, Unfit}
+
+-- a line holds at most this many bytes before its newline
+abbrev pub line-limit : ℕ
+line-limit = 120
+
+-- field i, counted from 0; empty where there are fewer
+abbrev pub field : ℕ → List (List ℕ) → List ℕ
+field i fs = getD fs i []
+
+-- the number in field i, which is 0 where there are fewer
+unfoldable pub number-in : ℕ → List (List ℕ) → Number
+number-in i fs = cond (leb (length fs) i) (Number.Is 0) (numeral (field i fs))
+
+-- opening N nodes, where both are numbers of their widths
+abbrev pub open-with : Half → Number → Request
+open-with (Half.Is n) (Number.Is hidden) = Open n hidden
+open-with (Half.Is n) Number.Bad = Unfit
+open-with Half.Bad hidden = Unfit
+
+-- `open N HIDDEN`
+unfoldable pub open-line : List (List ℕ) → Request
+open-line fs = cond (eqb (length fs) 3) (open-with (narrow (numeral (field 1 fs))) (numeral (field 2 fs))) Unfit
+
+-- the command of a number, where its caller and arguments are numbers of their widths
+abbrev pub command-with : ℕ → Half → Half → Half → Half → Number → Request
+command-with k (Half.Is i) (Half.Is a) (Half.Is b) (Half.Is c) (Number.Is set) = Command k i a b c set
+command-with k (Half.Is i) (Half.Is a) (Half.Is b) (Half.Is c) Number.Bad = Unfit
+command-with k (Half.Is i) (Half.Is a) (Half.Is b) Half.Bad set = Unfit
+command-with k (Half.Is i) (Half.Is a) Half.Bad c set = Unfit
+command-with k (Half.Is i) Half.Bad b c set = Unfit
+command-with k Half.Bad a b c set = Unfit
+
+-- a command with its caller, three arguments as they stand, and whether the second is a set of nodes
+unfoldable pub command-by : Bool → ℕ → Number → Number → Number → Number → Request
+command-by t k i a b c =
+    cond t
+    (command-with k (narrow i) (narrow a) (Half.Is 0) (narrow c) b)
+    (command-with k (narrow i) (narrow a) (narrow b) (narrow c) (Number.Is 0))
+
+-- the command of a number on a line: its caller is field 0, its arguments begin in field 2; number 0 is none
+unfoldable pub numbered-line : ℕ → List (List ℕ) → Request
+numbered-line k fs =
+    cond (eqb k 0) Unfit
+    (command-by (takes-set k) k (number-in 0 fs) (number-in 2 fs) (number-in 3 fs) (number-in 4 fs))
+
+-- CALLER COMMAND ARGUMENTS: two fields and the arguments
+unfoldable pub command-line : List (List ℕ) → Request
+command-line fs = cond (leb 2 (length fs)) (numbered-line (number-of (field 1 fs) (length fs - 2)) fs) Unfit
+
+-- a line that begins with `open` opens, any other is a command
+unfoldable pub request-in : List (List ℕ) → Request
+request-in fs = cond (same (field 0 fs) (bytes "open")) (open-line fs) (command-line fs)
+
+-- the request that a line is: its bytes without the newline
+unfoldable pub request-of : List ℕ → Request
+request-of s = cond (leb (length s) line-limit) (request-in (fields s)) Unfit

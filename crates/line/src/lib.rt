@@ -1,0 +1,172 @@
+// A line of a script becomes a request.
+ghost use mathlib.Core.Path.{_≡_};
+ghost use lib.ListN.{length};
+ghost use Rattle.line.specs.Text.{find-in, fields};
+ghost use Rattle.line.specs.Requests.{number-in, open-with, open-line, command-with, command-by, numbered-line, command-line, request-of};
+
+mod fields;
+mod number;
+mod words;
+
+use number::Half;
+use number::Number;
+
+pub enum Request {
+    // a fresh table: how many nodes, and the set of hidden ones
+    Open(u32, u64),
+    // a command's number, its caller, its arguments of 32 bits and its set of nodes; what it does not take is 0
+    Command {
+        number: u32,
+        caller: u32,
+        a: u32,
+        b: u32,
+        c: u32,
+        set: u64,
+    },
+    Unfit,
+}
+
+// A line holds at most this many bytes before its newline.
+const LINE_LIMIT: usize = 120;
+
+// The place of the first b in s, or the length of s where there is none.
+pub fn find(s: &[u8], b: u8) -> usize
+    ensures { λ r. ⌜ r ≡ find-in b (now (s .entry)) ⌝ }
+{
+    let mut i = 0;
+    while i < s.len() {
+        if s[i] == b {
+            return i;
+        }
+        i += 1;
+    }
+    i
+}
+
+// The number in field i of a line of so many fields, which is 0 where there are fewer.
+fn number_in(s: &[u8], count: usize, i: usize) -> Number
+    requires { ⌜ count ≡ length (fields (now s)) ⌝ }
+    ensures { λ r. ⌜ r ≡ number-in i (fields (now (s .entry))) ⌝ }
+{
+    if count <= i {
+        return Number::Is(0);
+    }
+    number::numeral(fields::field(s, i))
+}
+
+// Opening, where both are numbers of their widths.
+fn open_with(n: Half, hidden: Number) -> Request
+    ensures { λ r. ⌜ r ≡ open-with n hidden ⌝ }
+{
+    let Half::Is(size) = n else {
+        return Request::Unfit;
+    };
+    let Number::Is(set) = hidden else {
+        return Request::Unfit;
+    };
+    Request::Open(size, set)
+}
+
+// The line `open N HIDDEN`.
+fn open_line(s: &[u8], count: usize) -> Request
+    requires { ⌜ count ≡ length (fields (now s)) ⌝ }
+    ensures { λ r. ⌜ r ≡ open-line (fields (now (s .entry))) ⌝ }
+{
+    if count != 3 {
+        return Request::Unfit;
+    }
+    let n = number::narrow(number::numeral(fields::field(s, 1)));
+    let hidden = number::numeral(fields::field(s, 2));
+    open_with(n, hidden)
+}
+
+// A command, where its caller and its arguments are numbers of their widths.
+fn command_with(number: u32, caller: Half, a: Half, b: Half, c: Half, set: Number) -> Request
+    ensures { λ r. ⌜ r ≡ command-with number caller a b c set ⌝ }
+{
+    let Half::Is(i) = caller else {
+        return Request::Unfit;
+    };
+    let Half::Is(x) = a else {
+        return Request::Unfit;
+    };
+    let Half::Is(y) = b else {
+        return Request::Unfit;
+    };
+    let Half::Is(z) = c else {
+        return Request::Unfit;
+    };
+    let Number::Is(m) = set else {
+        return Request::Unfit;
+    };
+    Request::Command {
+        number: number,
+        caller: i,
+        a: x,
+        b: y,
+        c: z,
+        set: m,
+    }
+}
+
+// A command with its caller and three arguments as they stand, and whether the second is a set of nodes.
+fn command_by(
+    takes_set: bool,
+    number: u32,
+    caller: Number,
+    a: Number,
+    b: Number,
+    c: Number,
+) -> Request
+    ensures { λ r. ⌜ r ≡ command-by «takes_set» number caller a b c ⌝ }
+{
+    let i = number::narrow(caller);
+    let x = number::narrow(a);
+    let z = number::narrow(c);
+    if takes_set {
+        return command_with(number, i, x, Half::Is(0), z, b);
+    }
+    let y = number::narrow(b);
+    command_with(number, i, x, y, z, Number::Is(0))
+}
+
+// The command of a number on a line.
+fn numbered_line(number: u32, s: &[u8], count: usize) -> Request
+    requires { ⌜ count ≡ length (fields (now s)) ⌝ }
+    ensures { λ r. ⌜ r ≡ numbered-line number (fields (now (s .entry))) ⌝ }
+{
+    if number == 0 {
+        return Request::Unfit;
+    }
+    let caller = number_in(s, count, 0);
+    let a = number_in(s, count, 2);
+    let b = number_in(s, count, 3);
+    let c = number_in(s, count, 4);
+    command_by(words::takes_set(number), number, caller, a, b, c)
+}
+
+// The line of a caller, a command and its arguments.
+fn command_line(s: &[u8], count: usize) -> Request
+    requires { ⌜ count ≡ length (fields (now s)) ⌝ }
+    ensures { λ r. ⌜ r ≡ command-line (fields (now (s .entry))) ⌝ }
+{
+    if count < 2 {
+        return Request::Unfit;
+    }
+    let number = words::number(fields::field(s, 1), count - 2);
+    numbered_line(number, s, count)
+}
+
+// The request that a line is: its bytes without the newline.
+pub fn request_of(s: &[u8]) -> Request
+    ensures { λ r. ⌜ r ≡ request-of (now (s .entry)) ⌝ }
+{
+    if LINE_LIMIT < s.len() {
+        return Request::Unfit;
+    }
+    let count = fields::count(s);
+    if check::same(fields::field(s, 0), b"open") {
+        return open_line(s, count);
+    }
+    command_line(s, count)
+}

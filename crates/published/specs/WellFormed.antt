@@ -21,7 +21,7 @@ connected ni ni′ X = those (λ nd. nd .connections ni′) (X .nds) ni
 abbrev pub free : Bool → Published → Set
 free h X = those (λ nd. cond h (nd .hidden) (not (nd .hidden))) (X .nds) ∖ (λ ni. IsSGroupNode ni (X .grs))
 
--- a namespace: names and pids in range, hosts on the roster; at most 32 names; no pid twice
+-- a namespace: names and pids in range, hosts on the roster; no more names than there is room for; no pid twice
 pub record Fair-namespace (size : ℕ) (ns : Namespace) : Type 0 where
   pub in-range : (n p : ℕ) → ns n ≡ some p → (1 ≤ n) × (n < half-word) × (p < half-word) × (host p < size)
   pub few : count half-word (λ n. held (ns n)) ≤ names-per-group
@@ -41,7 +41,7 @@ pub record WellFormed (X : Published) : Type 0 where
   pub size : ℕ
   pub size-range : (1 ≤ size) × (size ≤ node-limit)
   pub roster : (ni : ℕ) → held (X .nds ni) ≡ ltb ni size
-  -- at most 32 s_groups; gr_names are those of the s_groups that the node is in
+  -- no more s_groups than there is room for; gr_names are those of the s_groups that the node is in
   pub few-groups : count group-names (λ s. held (X .grs s)) ≤ group-limit
   pub groups : (s : ℕ) (g : SGroup) → X .grs s ≡ some g → Fair-group X size s g
   pub gr-names-are : (ni : ℕ) (nd : Node) → X .nds ni ≡ some nd → nd .gr-names ≡ names-seen ni (X .grs)

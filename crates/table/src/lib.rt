@@ -20,7 +20,7 @@ use wiring::tests::free_sound;
 use wiring::tests::links_sound;
 
 // How much there can be: nodes on a roster, s_groups, names in an s_group.
-pub const NODE_LIMIT: usize = 64;
+pub const NODE_LIMIT: usize = nodes::NODE_LIMIT as usize;
 
 pub const GROUP_LIMIT: usize = 32;
 
@@ -52,7 +52,7 @@ pub const BODIES_AT: usize = FREE_AT + NODE_LIMIT;
 // How many words a table has.
 pub const TABLE_WORDS: usize = BODIES_AT + GROUP_LIMIT * NAMES_PER_GROUP;
 
-// Whether the head is right: 1 to 64 nodes, hidden ones among them, at most 32 s_groups, zero.
+// Whether the head is right: a roster size in range, hidden nodes on the roster, no more s_groups than there is room for, zero.
 fn head_sound(size: u64, hidden: u64, count: u64, spare: u64) -> bool
     ensures { λ r. ⌜ r ≡ head-right size hidden count spare ⌝ }
 {

@@ -1,13 +1,16 @@
--- The ends of a command for members on a sound table: refused, denied, or settled in its s_group. Assumes nothing.
-use mathlib.Core.Path.{_≡_, sym, _∙_}
+-- The ends of a command on a sound table: refused, denied, settled in its s_group, or told as a list. Assumes nothing.
+use mathlib.Core.Path.{_≡_, sym, ap, _∙_}
 use mathlib.Core.Bool.{true, false}
 use mathlib.Core.List.{List}
 use Prim.Native.Nat.{ℕ, _<_}
 use native.Mathlib.Omega.{arith}
+use lib.ListN.{length}
 use Rattle.semantics.specs.Sizes.{group-limit, names-per-group}
 use Rattle.semantics.specs.State.{Group}
-use Rattle.semantics.specs.Steps.{GroupCommand, within, target, Outcome, answer-of}
+use Rattle.semantics.specs.Steps.{Command, GroupCommand, within, target, Outcome, Result, answer-of}
 use Rattle.semantics.specs.Test.{sound}
+use Rattle.semantics.specs.Call.{listed-over}
+use Rattle.semantics.specs.Places.{group-at}
 use Rattle.semantics.specs.declared.Answer.{Answer}
 use Rattle.semantics.specs.declared.Value.{Value}
 use Rattle.semantics.specs.declared.Value.the-variants.{Error}
@@ -15,11 +18,12 @@ use Rattle.semantics.specs.declared.Reason.{Reason}
 use Rattle.semantics.specs.declared.Reason.the-variants.{Done}
 use Rattle.sgroup.specs.Place.{place-for}
 use Rattle.sgroup.specs.Judge.{is-done}
-use Rattle.sgroup.specs.Judged.{For-members, refused, denied, allowed}
-use Rattle.sgroup.specs.Seats.{Open}
+use Rattle.sgroup.specs.Judged.{Goes, For-members, refused, denied, allowed}
+use Rattle.sgroup.specs.Seats.{Open, seat-group}
 use Rattle.sgroup.specs.Sound.{here, groups-few, granted-here, seat-below}
-use Rattle.sgroup.specs.Calls.{Says, says-kept}
+use Rattle.sgroup.specs.Calls.{Says, Lists, says-kept, lists}
 use Rattle.sgroup.specs.Settled.{Settles, said}
+use Rattle.sgroup.specs.Listing.{Told}
 use Rattle.sgroup.specs.declared.place.Access.{Access}
 use Rattle.sgroup.specs.declared.place.Access.the-variants.{Member, Denied}
 
@@ -43,3 +47,24 @@ module _ (t : List ℕ) (ok : sound names-per-group t ≡ true) where
       pub says-settled : {at : ℕ} (o : Open i (target c) at (here t .groups)) {a : Answer} {u : List ℕ}
           → Settles (target c) (k (o .seat .group)) (here t) a u → Says room i (within c) t a u
       says-settled o w = said t ok (allowed f e h o) w
+
+  -- ---- with a run that is lent for a list
+
+  module _ (out : List ℕ) where
+    -- the answer and the list of the step
+    pub heard : (o : List ℕ) {i : ℕ} {c : Command} {w : Result} {a : Answer} → Goes (length out) i c (here t) w → a ≡ w .answer → o ≡ listed-over (w .list) out
+        → Lists i c t out a o
+    heard o g e l = let q = lists t ok out g in (e ∙ q .0, l ∙ q .1)
+
+    module _ {i : ℕ} {c : GroupCommand} {r : Reason} {v : Value} {k : Group → Outcome} (f : For-members (length out) i c (here t) r v k) {q : Reason} (e : q ≡ r) where
+      pub lists-refused : is-done q ≡ false → Lists i (within c) t out (answer-of Error q) out
+      lists-refused h = lists t ok out (refused (f .judging) e h)
+
+      module _ (h : q ≡ Done) where
+        pub lists-denied : {d : Reason} (a : Access) → a ≡ place-for i (target c) (here t .groups) → a ≡ Denied d → Lists i (within c) t out (answer-of v d) out
+        lists-denied {d} a p n = lists t ok out (denied f e h (granted-here t ok i (target c) a (Denied d) p n))
+
+        pub lists-told : {at : ℕ} → Open i (target c) at (here t .groups) → {a : Answer} (o : List ℕ) → Told (k (group-at (here t .groups) at)) out a o → Lists i (within c) t out a o
+        lists-told p o w =
+            let is = seat-group (p .seat) in
+            heard o (allowed f e h p) (w .answer ∙ ap (λ (g : Group). k g .answer) is) (w .listed ∙ ap (λ (g : Group). listed-over (k g .list) out) is)

@@ -20,3 +20,7 @@ pub mod Regrouped
 pub mod Grouping
 pub mod Reaching
 pub mod Unfit
+pub mod Asking
+pub mod Listing
+pub mod Own
+pub mod OwnGroups

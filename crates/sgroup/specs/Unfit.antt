@@ -11,7 +11,7 @@ use Rattle.semantics.specs.Calls.{why}
 use Rattle.semantics.specs.Agree.{test-regular}
 use Rattle.semantics.specs.declared.Answer.{Answer}
 use Rattle.semantics.specs.declared.Value.the-variants.{Error}
-use Rattle.sgroup.specs.Calls.{Says, says-unsound}
+use Rattle.sgroup.specs.Calls.{Says, Lists, says-unsound, lists-unsound}
 
 -- what a step asks for
 pub sound-run : (t : List ℕ) → sound names-per-group t ≡ true → (length t ≡ table-words names-per-group) × (sound names-per-group t ≡ true)
@@ -20,3 +20,7 @@ sound-run t ok = (test-regular names-per-group t ok .2, ok)
 -- a refusal leaves every word
 pub says-unfit : (room i : ℕ) (c : Command) (t : List ℕ) (a : Answer) → sound names-per-group t ≡ false → a ≡ answer-of Error (why t) → Says room i c t a t
 says-unfit room i c t a h e = subst (λ (x : Answer). Says room i c t x t) (sym e) (says-unsound room i c t h)
+
+-- and every word of the run for a list
+pub lists-unfit : (i : ℕ) (c : Command) (t out : List ℕ) (a : Answer) → sound names-per-group t ≡ false → a ≡ answer-of Error (why t) → Lists i c t out a out
+lists-unfit i c t out a h e = subst (λ (x : Answer). Lists i c t out x out) (sym e) (lists-unsound i c t out h)

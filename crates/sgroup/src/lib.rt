@@ -4,8 +4,9 @@ use semantics::Reason;
 use semantics::Value;
 use table::TABLE_WORDS;
 ghost use mathlib.Core.Path.{_≡_};
-ghost use Rattle.semantics.specs.Steps.{answer-of, within, register-name, re-register-name, unregister-name, new-s-group, add-nodes, whereis-name-at, send, send-name, send-at, remove-nodes, delete-s-group};
-ghost use Rattle.semantics.specs.Call.{call};
+ghost use lib.ListN.{length};
+ghost use Rattle.semantics.specs.Steps.{answer-of, within, register-name, re-register-name, unregister-name, registered-names, whereis-name, new-s-group, add-nodes, whereis-name-at, send, send-name, send-at, remove-nodes, delete-s-group, own-nodes, own-s-groups};
+ghost use Rattle.semantics.specs.Call.{call, listed-over};
 ghost use Rattle.semantics.specs.Calls.{why};
 ghost use Rattle.semantics.specs.declared.Value.the-variants.{Error};
 
@@ -17,6 +18,7 @@ mod names;
 mod naming;
 mod place;
 mod reaching;
+mod reading;
 mod wires;
 
 // The answer where the run is no sound table: its length is wrong, or it is unsound.
@@ -64,6 +66,27 @@ pub fn unregister_name(table: &mut [u64], caller: u32, s: u32, n: u32) -> Answer
 {
     if table::is_sound(table) {
         return naming::unregister_name(table, caller, s, n);
+    }
+    unfit(table)
+}
+
+// The names of the s_group, listed in the run.
+pub fn registered_names(table: &[u64], caller: u32, s: u32, out: &mut [u64]) -> Answer
+    ensures { λ r. ⌜ r ≡ call (length (now (out .entry))) caller (within (registered-names s)) (now (table .entry)) .answer ⌝ }
+    ensures { λ _. ⌜ now (out .exit) ≡ listed-over (call (length (now (out .entry))) caller (within (registered-names s)) (now (table .entry)) .list) (now (out .entry)) ⌝ }
+{
+    if table::is_sound(table) {
+        return reading::registered_names(table, caller, s, out);
+    }
+    unfit(table)
+}
+
+// What the caller finds under the name in the s_group.
+pub fn whereis_name(table: &[u64], caller: u32, s: u32, n: u32) -> Answer
+    ensures { λ r. ⌜ r ≡ call 0 caller (within (whereis-name s n)) (now (table .entry)) .answer ⌝ }
+{
+    if table::is_sound(table) {
+        return reading::whereis_name(table, caller, s, n);
     }
     unfit(table)
 }
@@ -152,6 +175,27 @@ pub fn delete_s_group(table: &mut [u64], caller: u32, s: u32) -> Answer
 {
     if table::is_sound(table) {
         return grouping::delete_s_group(table, caller, s);
+    }
+    unfit(table)
+}
+
+// The nodes of the caller's groups, and how many they are.
+pub fn own_nodes(table: &[u64], caller: u32) -> Answer
+    ensures { λ r. ⌜ r ≡ call 0 caller own-nodes (now (table .entry)) .answer ⌝ }
+{
+    if table::is_sound(table) {
+        return reading::own_nodes(table, caller);
+    }
+    unfit(table)
+}
+
+// The caller's s_groups, name and members of each, listed in the run.
+pub fn own_s_groups(table: &[u64], caller: u32, out: &mut [u64]) -> Answer
+    ensures { λ r. ⌜ r ≡ call (length (now (out .entry))) caller own-s-groups (now (table .entry)) .answer ⌝ }
+    ensures { λ _. ⌜ now (out .exit) ≡ listed-over (call (length (now (out .entry))) caller own-s-groups (now (table .entry)) .list) (now (out .entry)) ⌝ }
+{
+    if table::is_sound(table) {
+        return reading::own_s_groups(table, caller, out);
     }
     unfit(table)
 }

@@ -1,0 +1,78 @@
+-- `sgroup::reading::whereis_name` meets its contract: refused by its arguments, or what the lookup finds.
+-- Assumes nothing.
+use borrow.Author.Needs.{needs}
+use mathlib.Core.Path.{sym, ap, _∙_}
+use native.Mathlib.Omega.{arith}
+use Rattle.semantics.specs.Steps.{Looked, tell}
+use Rattle.semantics.specs.Table.{state-of}
+use Rattle.sgroup.specs.Judged.{step-whereis, refused}
+use Rattle.sgroup.specs.Sound.{here, nodes-few}
+use Rattle.sgroup.specs.Calls.{answers}
+use Rattle.sgroup.specs.Names.{looked-up}
+use Rattle.sgroup.specs.Asking.{whereis-told}
+use Rattle.sgroup.proofs.Reasons.{not-done}
+use Rattle.sgroup.proofs.reading.whereis_name.Statement.{statement}
+use Rattle.sgroup.proofs.reading.whereis_name.Tie as tie
+
+shared-slice-read-size : tie.Need-shared-slice-read-size
+shared-slice-read-size c = search needs
+
+cast-size : tie.Need-cast-size
+cast-size c = let p = c .before .before in omega (arith, nodes-few (p .args .t .now) (p .pre .1))
+
+name-reason-requires : tie.Need-name-reason-requires
+name-reason-requires c κs = search needs
+
+enum-told : tie.Need-enum-told
+enum-told c = search needs
+
+returns : tie.Need-returns
+unfolding state-of
+returns c =
+    let p = c .before .before .before .before in
+    answers (p .args .t .now) (p .pre .1)
+    (refused (step-whereis 0 (p .args .caller) (here (p .args .t .now)) (p .args .s) (p .args .n) .judging) (c .before .name-reason .ensures) (not-done (c .before .name-reason .result) (c .match .keys2)))
+
+look-requires : tie.Need-look-requires
+look-requires c κs = search needs
+
+enum-known-p : tie.Need-enum-known-p
+enum-known-p c = search needs
+
+enum-known-d : tie.Need-enum-known-d
+enum-known-d c = search needs
+
+returns-2 : tie.Need-returns-2
+unfolding state-of
+returns-2 c =
+    let f = c .before .before .before in
+    let r = f .before .before .before in
+    let p = r .before .before .before in
+    let t = p .args .t .now in
+    ap (λ (l : Looked). tell l (here t) .answer) (ap looked-up (sym (c .before .p .given .1)) ∙ f .look .ensures)
+    ∙ answers t (p .pre .1) (whereis-told 0 (p .args .caller) (p .args .s) (p .args .n) (here t) (r .name-reason .ensures) (f .before .enum-told .given .1))
+
+returns-3 : tie.Need-returns-3
+unfolding state-of
+returns-3 c =
+    let f = c .before .before .before in
+    let r = f .before .before .before in
+    let p = r .before .before .before in
+    let t = p .args .t .now in
+    ap (λ (l : Looked). tell l (here t) .answer) (ap looked-up (sym (c .before .d .given .1)) ∙ f .look .ensures)
+    ∙ answers t (p .pre .1) (whereis-told 0 (p .args .caller) (p .args .s) (p .args .n) (here t) (r .name-reason .ensures) (f .before .enum-told .given .1))
+
+pub whereis-name-spec : {M : Type 1} → statement M
+whereis-name-spec =
+    tie.close
+    (tie.spec
+    shared-slice-read-size
+    cast-size
+    name-reason-requires
+    enum-told
+    returns
+    look-requires
+    enum-known-p
+    enum-known-d
+    returns-2
+    returns-3)

@@ -1,0 +1,39 @@
+-- `sgroup::registered_names` meets its contract: on a sound table its step does, and any other run is refused.
+-- Assumes nothing.
+use borrow.Author.Needs.{needs}
+use mathlib.Core.Path.{sym, _∙_}
+use Rattle.semantics.specs.Steps.{within, registered-names}
+use Rattle.sgroup.specs.Unfit.{sound-run, lists-unfit}
+use Rattle.sgroup.proofs.registered_names.Statement.{statement}
+use Rattle.sgroup.proofs.registered_names.Tie as tie
+
+is-sound-requires : tie.Need-is-sound-requires
+is-sound-requires c κs = search needs
+
+registered-names-requires : tie.Need-registered-names-requires
+registered-names-requires c κs = sound-run (c .before .before .before .before .before .args .table .now) (sym (c .before .before .is-sound .ensures) ∙ c .before .if1 .taken)
+
+same-length : tie.Need-same-length
+same-length c = search needs
+
+returns : tie.Need-returns
+returns c = search needs
+
+unfit-requires : tie.Need-unfit-requires
+unfit-requires c κs = search needs
+
+returns-2 : tie.Need-returns-2
+returns-2 c =
+    let a = c .before .before .before .before .before .args in
+    lists-unfit (a .caller) (within (registered-names (a .s))) (a .table .now) (a .out .now) (c .unfit .result) (sym (c .before .before .is-sound .ensures) ∙ c .before .if1 .left) (c .unfit .ensures)
+
+pub registered-names-spec : {M : Type 1} → statement M
+registered-names-spec =
+    tie.close
+    (tie.spec
+    is-sound-requires
+    registered-names-requires
+    same-length
+    returns
+    unfit-requires
+    returns-2)

@@ -1,0 +1,35 @@
+-- `sgroup::whereis_name` meets its contract: on a sound table its step does, and any other run is refused.
+-- Assumes nothing.
+use borrow.Author.Needs.{needs}
+use mathlib.Core.Path.{sym, _∙_}
+use Rattle.semantics.specs.Steps.{within, whereis-name}
+use Rattle.sgroup.specs.Unfit.{sound-run, says-unfit}
+use Rattle.sgroup.proofs.whereis_name.Statement.{statement}
+use Rattle.sgroup.proofs.whereis_name.Tie as tie
+
+is-sound-requires : tie.Need-is-sound-requires
+is-sound-requires c κs = search needs
+
+whereis-name-requires : tie.Need-whereis-name-requires
+whereis-name-requires c κs = sound-run (c .before .before .before .args .table .now) (sym (c .before .is-sound .ensures) ∙ c .if1 .taken)
+
+returns : tie.Need-returns
+returns c = search needs
+
+unfit-requires : tie.Need-unfit-requires
+unfit-requires c κs = search needs
+
+returns-2 : tie.Need-returns-2
+returns-2 c =
+    let a = c .before .before .before .before .args in
+    says-unfit 0 (a .caller) (within (whereis-name (a .s) (a .n))) (a .table .now) (c .unfit .result) (sym (c .before .before .is-sound .ensures) ∙ c .before .if1 .left) (c .unfit .ensures) .0
+
+pub whereis-name-spec : {M : Type 1} → statement M
+whereis-name-spec =
+    tie.close
+    (tie.spec
+    is-sound-requires
+    whereis-name-requires
+    returns
+    unfit-requires
+    returns-2)

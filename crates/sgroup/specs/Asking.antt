@@ -1,37 +1,21 @@
--- A lookup: what it finds by the place of its s_group, and the step of whereis_name. Assumes nothing.
-use mathlib.Core.Path.{_≡_, refl, sym, ap, _∙_}
+-- The step of whereis_name tells what the caller's lookup finds. Assumes nothing.
+use mathlib.Core.Path.{_≡_, refl, sym, _∙_}
 use mathlib.Core.Logic.{⊎-elim}
 use mathlib.Core.Bool.{true, false}
 use mathlib.Core.Option.{Option, none, some}
-use mathlib.Core.List.{List}
 use Prim.Native.Nat.{ℕ}
 use native.Mathlib.Omega.{arith}
-use borrow.Author.Tests.{eq-eqb, ne-eqb}
+use borrow.Author.Tests.{ne-eqb}
 use Rattle.nodes.specs.Sets.{has}
 use Rattle.nodes.specs.Bools.{by-test}
-use Rattle.namespace.specs.Entries.{Entry, lookup}
 use Rattle.semantics.specs.State.{Group, State, find}
-use Rattle.semantics.specs.Steps.{within, whereis-name, as-member, looked, nothing-found, look-in, ask, tell, apply, settle}
+use Rattle.semantics.specs.Steps.{within, whereis-name, as-member, look-in, ask, tell, apply, settle}
 use Rattle.semantics.specs.declared.Value.the-variants.{Undefined}
 use Rattle.semantics.specs.declared.Reason.{Reason}
-use Rattle.semantics.specs.declared.Reason.the-variants.{Done, NotRegistered}
+use Rattle.semantics.specs.declared.Reason.the-variants.{Done}
 use Rattle.sgroup.specs.Judge.{name-reason}
 use Rattle.sgroup.specs.Judged.{Goes, whereis-in, step-whereis, passed}
 use Rattle.sgroup.specs.Passed.{group-done, name-done}
-use Rattle.sgroup.specs.Seats.{Open, Shut}
-use Rattle.sgroup.specs.Names.{names-at}
-use Rattle.sgroup.specs.NamesHere.{names-of}
-
-pub ask-zero : (i s n : ℕ) (st : State) → s ≡ 0 → ask i s n st ≡ nothing-found NotRegistered
-ask-zero i s n st h = rw (eq-eqb s 0)
-
-pub ask-denied : (i s n : ℕ) (st : State) {r : Reason} → (s ≡ 0 → ⊥) → Shut i s (st .groups) r → ask i s n st ≡ nothing-found r
-ask-denied i s n st h d = rw (ne-eqb s 0) (d .lookups n)
-
-pub ask-open : (i s n k : ℕ) (st : State) → (s ≡ 0 → ⊥) → Open i s k (st .groups) → ask i s n st ≡ looked (lookup n (names-at k st))
-ask-open i s n k st h o = rw (ne-eqb s 0, o .seat .finds, o .member) (ap (λ (ns : List Entry). looked (lookup n ns)) (sym (names-of st (o .seat))))
-
--- ---- whereis_name tells what it finds
 
 told : (i s n : ℕ) (st : State) (o : Option Group) → settle s (as-member i Undefined o (whereis-in n)) st ≡ tell (look-in i n o) st
 unfolding apply

@@ -3,7 +3,7 @@ use mathlib.Core.Path.{_≡_, refl, sym, ap, _∙_, subst}
 use mathlib.Core.Bool.{true, false, false≢true}
 use mathlib.Core.Option.{Option, none, some}
 use mathlib.Core.List.{List, _∷_, _++_}
-use Prim.Native.Nat.{ℕ, zero, suc, _+_, _-_, _*_, _/_, _≤_, _<_}
+use Prim.Native.Nat.{ℕ, zero, suc, _+_, _-_, _*_, _<_}
 use native.Mathlib.Omega.{arith}
 use lib.ListN.{length, getD, take, drop, set, length-append}
 use lib.Seq.{set-at, set-getD}
@@ -12,8 +12,6 @@ use Rattle.namespace.specs.Entries.{Entry, insert, remove, renew, lookup, rank,
 use Rattle.namespace.specs.Raw.{place, found, found-at, answer-at, pid-answer, yes-no, added, dropped, replaced, change-of}
 use Rattle.namespace.specs.Laws.{length-insert, length-remove, length-renew, remove-absent}
 use Rattle.namespace.specs.Meaning.{found-words, pid-answer-words, added-words, dropped-words, replaced-words}
-use Rattle.namespace.specs.declared.Found.{Found}
-use Rattle.namespace.specs.declared.Found.the-variants as find
 use Rattle.namespace.specs.declared.Change.{Change}
 use Rattle.namespace.specs.declared.Change.the-variants as change
 use Rattle.semantics.specs.Sizes.{group-names, names-per-group, contents-at, bodies-at}

@@ -1,14 +1,12 @@
 -- One s_group of a table has other names: its own words are lent and its contents word is stored, and the rest of the table stays.
 -- Assumes nothing.
-use mathlib.Core.Path.{_≡_, refl, sym, ap, ap₂, _∙_, subst}
+use mathlib.Core.Path.{_≡_, refl, sym, ap, _∙_, subst}
 use mathlib.Core.List.{List, [], _∷_, _++_, map, append-assoc}
-use Prim.Native.Nat.{ℕ, zero, suc, _+_, _-_, _*_, _/_, _≤_, _<_}
-use native.Mathlib.Nat.{not-suc-le-zero}
+use Prim.Native.Nat.{ℕ, zero, suc, _+_, _-_, _*_, _/_, _<_}
 use native.Mathlib.Omega.{arith}
 use lib.Dec.{lit<}
 use lib.ListN.{length, getD, take, drop, set, replicate, length-map, length-set, take-append-drop}
 use lib.Seq.{drop-cons, set-split, set-getD, set-append-left, length-take-le}
-use Rattle.nodes.specs.Sets.{node-limit}
 use Rattle.namespace.specs.Entries.{Entry, words}
 use Rattle.namespace.specs.Storage.{length-words}
 use Rattle.semantics.specs.Sizes.{group-limit, group-names, contents-at, bodies-at}

@@ -5,7 +5,7 @@ use mathlib.Core.Logic.{⊎-elim}
 use mathlib.Core.Bool.{true, false}
 use mathlib.Core.Option.{Option, none, some}
 use mathlib.Core.List.{List, [], _∷_, _++_, map}
-use Prim.Native.Nat.{ℕ, suc, _+_, _%_, _≤_, _<_}
+use Prim.Native.Nat.{ℕ, suc, _+_, _≤_, _<_}
 use native.Mathlib.Nat.{add-zero, zero-add}
 use native.Mathlib.Omega.{arith}
 use lib.Dec.{lit<, eqb}
@@ -15,7 +15,7 @@ use borrow.Author.Tests.{lt-ltb, le-ltb, eq-eqb, ne-eqb, eqb-false}
 use Rattle.nodes.specs.Sets.{has}
 use Rattle.nodes.specs.Bools.{by-lt, by-eq, by-test}
 use Rattle.namespace.specs.Entries.{Entry}
-use Rattle.semantics.specs.Sizes.{group-limit, group-names, contents-at}
+use Rattle.semantics.specs.Sizes.{group-limit, contents-at}
 use Rattle.semantics.specs.State.{Group, State, find, put, add-group, drop-group}
 use Rattle.semantics.specs.Steps.{Result, error, Outcome, say, as-member, look-in, nothing-found, for-member}
 use Rattle.semantics.specs.Table.{contents, sections}

@@ -1,17 +1,16 @@
 -- What a change of names in one s_group answers and leaves: the three rules, by their cases, and what a step has to show of them.
 -- Assumes nothing.
 use mathlib.Core.Path.{_≡_, refl, sym, ap, _∙_, subst}
-use mathlib.Core.Bool.{Bool, true, false, not, _&&_, cond}
+use mathlib.Core.Bool.{Bool, true, false}
 use mathlib.Core.List.{List}
 use Prim.Native.Nat.{ℕ, _<_, _≤_}
 use native.Mathlib.Omega.{arith}
-use lib.Dec.{leb}
 use lib.ListN.{length}
 use borrow.Author.Tests.{le-leb, lt-leb}
 use Rattle.namespace.specs.Entries.{Entry, insert, remove, renew, lookup, holds-pid}
 use Rattle.namespace.specs.Laws.{remove-absent, renew-absent, renew-is-insert-remove}
 use Rattle.semantics.specs.Sizes.{names-per-group}
-use Rattle.semantics.specs.State.{Group, State}
+use Rattle.semantics.specs.State.{State}
 use Rattle.semantics.specs.Steps.{Command, Outcome, answer-of, done, say, hold, held, full, apply, settle}
 use Rattle.semantics.specs.Test.{sound}
 use Rattle.semantics.specs.Regular.{Regular}
@@ -26,7 +25,7 @@ use Rattle.sgroup.specs.Judged.{Goes, register-in, re-register-in, unreg
 use Rattle.sgroup.specs.Seats.{Seat}
 use Rattle.sgroup.specs.Sound.{here}
 use Rattle.sgroup.specs.Calls.{Says, says}
-use Rattle.sgroup.specs.Names.{Standing, counted, names-at, with-names}
+use Rattle.sgroup.specs.Names.{counted, names-at, with-names}
 use Rattle.sgroup.specs.NamesHere.{is-held, count-is, standing, names-of, held-names, same-names}
 
 -- the answer a is that of the outcome, and the words u are those of the state after it

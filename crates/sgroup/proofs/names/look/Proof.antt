@@ -7,7 +7,7 @@ use native.Mathlib.Omega.{arith}
 use Prim.Native.Nat.{ℕ}
 use Rattle.namespace.specs.Entries.{lookup, rank}
 use Rattle.namespace.specs.Raw.{answer-at}
-use Rattle.semantics.specs.Steps.{Looked, looked, ask}
+use Rattle.semantics.specs.Steps.{looked, ask}
 use Rattle.sgroup.specs.Names.{names-at}
 use Rattle.sgroup.specs.NamesHere.{standing, ask-zero, ask-denied, ask-open}
 use Rattle.sgroup.specs.Seats.{Open}

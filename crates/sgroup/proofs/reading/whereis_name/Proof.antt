@@ -1,10 +1,12 @@
 -- `sgroup::reading::whereis_name` meets its contract: refused by its arguments, or what the lookup finds.
 -- Assumes nothing.
 use borrow.Author.Needs.{needs}
-use mathlib.Core.Path.{sym, ap, _∙_}
+use mathlib.Core.Path.{_≡_, sym, ap, _∙_}
 use native.Mathlib.Omega.{arith}
-use Rattle.semantics.specs.Steps.{Looked, tell}
+use Rattle.semantics.specs.Steps.{within, whereis-name, Looked, tell}
 use Rattle.semantics.specs.Table.{state-of}
+use Rattle.semantics.specs.Call.{call}
+use Rattle.sgroup.specs.declared.names.Lookup.{Lookup}
 use Rattle.sgroup.specs.Judged.{step-whereis, refused}
 use Rattle.sgroup.specs.Sound.{here, nodes-few}
 use Rattle.sgroup.specs.Calls.{answers}
@@ -13,6 +15,18 @@ use Rattle.sgroup.specs.Asking.{whereis-told}
 use Rattle.sgroup.proofs.Reasons.{not-done}
 use Rattle.sgroup.proofs.reading.whereis_name.Statement.{statement}
 use Rattle.sgroup.proofs.reading.whereis_name.Tie as tie
+
+-- what the lookup found is told
+told-here : (f : tie.After-look) (l : Lookup) → f .look .result ≡ l → let p = f .before .before .before .before .before .before in
+    let t = p .args .t .now in
+    tell (looked-up l) (here t) .answer ≡ call 0 (p .args .caller) (within (whereis-name (p .args .s) (p .args .n))) t .answer
+unfolding state-of
+told-here f l e =
+    let r = f .before .before .before in
+    let p = r .before .before .before in
+    let t = p .args .t .now in
+    ap (λ (x : Looked). tell x (here t) .answer) (ap looked-up (sym e) ∙ f .look .ensures)
+    ∙ answers t (p .pre .1) (whereis-told 0 (p .args .caller) (p .args .s) (p .args .n) (here t) (r .name-reason .ensures) (f .before .enum-told .given .1))
 
 shared-slice-read-size : tie.Need-shared-slice-read-size
 shared-slice-read-size c = search needs
@@ -44,23 +58,11 @@ enum-known-d c = search needs
 
 returns-2 : tie.Need-returns-2
 unfolding state-of
-returns-2 c =
-    let f = c .before .before .before in
-    let r = f .before .before .before in
-    let p = r .before .before .before in
-    let t = p .args .t .now in
-    ap (λ (l : Looked). tell l (here t) .answer) (ap looked-up (sym (c .before .p .given .1)) ∙ f .look .ensures)
-    ∙ answers t (p .pre .1) (whereis-told 0 (p .args .caller) (p .args .s) (p .args .n) (here t) (r .name-reason .ensures) (f .before .enum-told .given .1))
+returns-2 c = told-here (c .before .before .before) _ (c .before .p .given .1)
 
 returns-3 : tie.Need-returns-3
 unfolding state-of
-returns-3 c =
-    let f = c .before .before .before in
-    let r = f .before .before .before in
-    let p = r .before .before .before in
-    let t = p .args .t .now in
-    ap (λ (l : Looked). tell l (here t) .answer) (ap looked-up (sym (c .before .d .given .1)) ∙ f .look .ensures)
-    ∙ answers t (p .pre .1) (whereis-told 0 (p .args .caller) (p .args .s) (p .args .n) (here t) (r .name-reason .ensures) (f .before .enum-told .given .1))
+returns-3 c = told-here (c .before .before .before) _ (c .before .d .given .1)
 
 pub whereis-name-spec : {M : Type 1} → statement M
 whereis-name-spec =

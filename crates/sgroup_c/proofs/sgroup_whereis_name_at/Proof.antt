@@ -1,0 +1,38 @@
+-- `sgroup_c::sgroup_whereis_name_at` meets its contract: with room for the answer it is the call's, and without it nothing is called.
+-- Assumes nothing.
+use borrow.Author.Needs.{needs}
+use mathlib.Core.List.{[]}
+use Rattle.semantics.specs.Steps.{whereis-name-at}
+use Rattle.semantics.specs.Call.{call}
+use Rattle.sgroup_c.specs.Told.{silent-table, tells-table}
+use Rattle.sgroup_c.proofs.sgroup_whereis_name_at.Statement.{statement}
+use Rattle.sgroup_c.proofs.sgroup_whereis_name_at.Tie as tie
+
+returns : tie.Need-returns
+returns c =
+    let a = c .before .before .before .args in
+    silent-table (call 0 (a .caller) (whereis-name-at (a .node) (a .s) (a .n)) (a .table .now)) (a .answer .now) [] (a .table .now) (c .if1 .taken)
+
+whereis-name-at-requires : tie.Need-whereis-name-at-requires
+whereis-name-at-requires c κs = search needs
+
+put-requires : tie.Need-put-requires
+put-requires c κs = c .before .before .before .before .before .if1 .left
+
+same-length : tie.Need-same-length
+same-length c = search needs
+
+same-length-2 : tie.Need-same-length-2
+same-length-2 c = search needs
+
+returns-2 : tie.Need-returns-2
+returns-2 c =
+    let b = c .before .before .before .before .before in
+    let e = b .before .before .before in
+    let a = e .before .before .before .args in
+    tells-table (call 0 (a .caller) (whereis-name-at (a .node) (a .s) (a .n)) (a .table .now)) (a .answer .now) [] (a .table .now) (e .if1 .left) (b .whereis-name-at .ensures) (c .before .before .put .ensures)
+
+pub sgroup-whereis-name-at-spec : {M : Type 1} → statement M
+sgroup-whereis-name-at-spec =
+    tie.close
+    (tie.spec returns whereis-name-at-requires put-requires same-length same-length-2 returns-2)

@@ -1,0 +1,366 @@
+// The library for C and Rust: opening, the test and the commands, with numbers for their answers. A run is passed as a pointer and a length.
+use semantics::Answer;
+use semantics::Value;
+ghost use mathlib.Core.Path.{_≡_};
+ghost use mathlib.Core.List.{[], _++_};
+ghost use Prim.Native.Nat.{_≤_};
+ghost use lib.ListN.{length, drop};
+ghost use Rattle.semantics.specs.Answers.{number};
+ghost use Rattle.semantics.specs.Sizes.{names-per-group};
+ghost use Rattle.semantics.specs.Steps.{within, register-name, re-register-name, unregister-name, registered-names, whereis-name, whereis-name-at, send, send-name, send-at, new-s-group, add-nodes, remove-nodes, delete-s-group, own-nodes, own-s-groups};
+ghost use Rattle.semantics.specs.Call.{opening};
+ghost use Rattle.semantics.specs.Test.{sound};
+ghost use Rattle.sgroup_c.specs.Numbers.{answer-words, first, second, answer-in, told, commanded};
+
+// How many words an answer takes: its kind, two numbers, the number of its reason.
+const ANSWER_WORDS: usize = 4;
+
+// What is returned where the run for the answer is shorter; nothing is called then.
+const NO_ROOM: u32 = 4294967295;
+
+// The first number of a value.
+fn first(value: Value) -> u64
+    ensures { λ r. ⌜ r ≡ first value ⌝ }
+{
+    match value {
+        Value::Ok => 0,
+        Value::True => 0,
+        Value::False => 0,
+        Value::Error => 0,
+        Value::Undefined => 0,
+        Value::Pid(pid) => pid as u64,
+        Value::Grouped(name, _) => name as u64,
+        Value::Nodes(set, _) => set,
+        Value::Listed(count) => count as u64,
+    }
+}
+
+// The second number of a value.
+fn second(value: Value) -> u64
+    ensures { λ r. ⌜ r ≡ second value ⌝ }
+{
+    match value {
+        Value::Ok => 0,
+        Value::True => 0,
+        Value::False => 0,
+        Value::Error => 0,
+        Value::Undefined => 0,
+        Value::Pid(_) => 0,
+        Value::Grouped(_, set) => set,
+        Value::Nodes(_, count) => count as u64,
+        Value::Listed(_) => 0,
+    }
+}
+
+// Writes an answer into the first words of a run; the number of its reason.
+fn put(run: &mut [u64], given: Answer) -> u32
+    requires { ⌜ answer-words ≤ length (now run) ⌝ }
+    ensures { λ r. ⌜ r ≡ number (given .reason) ⌝ }
+    ensures { λ _. ⌜ now (run .exit) ≡ answer-in given ++ drop answer-words (now (run .entry)) ⌝ }
+{
+    let value = given.value;
+    let reason = given.reason;
+    let kind = semantics::kind(value);
+    let one = first(value);
+    let two = second(value);
+    let why = semantics::number(reason);
+    run[0] = kind as u64;
+    run[1] = one;
+    run[2] = two;
+    run[3] = why as u64;
+    why
+}
+
+// Whether the run is a sound table.
+#[no_mangle]
+pub extern "C" fn sgroup_is_sound(table: &[u64]) -> bool
+    ensures { λ r. ⌜ r ≡ sound names-per-group (now (table .entry)) ⌝ }
+{
+    table::is_sound(table)
+}
+
+// Opens the table for n nodes, some of them hidden: no s_groups, no connections, each normal node alone in its free group.
+#[no_mangle]
+pub extern "C" fn sgroup_open(table: &mut [u64], n: u32, hidden: u64, answer: &mut [u64]) -> u32
+    ensures { λ r. ⌜ r ≡ told (opening n hidden (now (table .entry))) (now (answer .entry)) [] (now (table .entry)) .returned ⌝ }
+    ensures { λ _. ⌜ now (answer .exit) ≡ told (opening n hidden (now (table .entry))) (now (answer .entry)) [] (now (table .entry)) .answer ⌝ }
+    ensures { λ _. ⌜ now (table .exit) ≡ told (opening n hidden (now (table .entry))) (now (answer .entry)) [] (now (table .entry)) .table ⌝ }
+{
+    if answer.len() < ANSWER_WORDS {
+        return NO_ROOM;
+    }
+    put(answer, table::open(table, n, hidden))
+}
+
+// Registers the pid under the name in the s_group.
+#[no_mangle]
+pub extern "C" fn sgroup_register_name(
+    table: &mut [u64],
+    caller: u32,
+    s: u32,
+    n: u32,
+    p: u32,
+    answer: &mut [u64],
+) -> u32
+    ensures { λ r. ⌜ r ≡ commanded caller (within (register-name s n p)) (now (answer .entry)) [] (now (table .entry)) .returned ⌝ }
+    ensures { λ _. ⌜ now (answer .exit) ≡ commanded caller (within (register-name s n p)) (now (answer .entry)) [] (now (table .entry)) .answer ⌝ }
+    ensures { λ _. ⌜ now (table .exit) ≡ commanded caller (within (register-name s n p)) (now (answer .entry)) [] (now (table .entry)) .table ⌝ }
+{
+    if answer.len() < ANSWER_WORDS {
+        return NO_ROOM;
+    }
+    put(answer, sgroup::register_name(table, caller, s, n, p))
+}
+
+// Registers the pid under the name in the s_group, in place of the one that the name had.
+#[no_mangle]
+pub extern "C" fn sgroup_re_register_name(
+    table: &mut [u64],
+    caller: u32,
+    s: u32,
+    n: u32,
+    p: u32,
+    answer: &mut [u64],
+) -> u32
+    ensures { λ r. ⌜ r ≡ commanded caller (within (re-register-name s n p)) (now (answer .entry)) [] (now (table .entry)) .returned ⌝ }
+    ensures { λ _. ⌜ now (answer .exit) ≡ commanded caller (within (re-register-name s n p)) (now (answer .entry)) [] (now (table .entry)) .answer ⌝ }
+    ensures { λ _. ⌜ now (table .exit) ≡ commanded caller (within (re-register-name s n p)) (now (answer .entry)) [] (now (table .entry)) .table ⌝ }
+{
+    if answer.len() < ANSWER_WORDS {
+        return NO_ROOM;
+    }
+    put(answer, sgroup::re_register_name(table, caller, s, n, p))
+}
+
+// Takes the name out of the s_group's namespace.
+#[no_mangle]
+pub extern "C" fn sgroup_unregister_name(
+    table: &mut [u64],
+    caller: u32,
+    s: u32,
+    n: u32,
+    answer: &mut [u64],
+) -> u32
+    ensures { λ r. ⌜ r ≡ commanded caller (within (unregister-name s n)) (now (answer .entry)) [] (now (table .entry)) .returned ⌝ }
+    ensures { λ _. ⌜ now (answer .exit) ≡ commanded caller (within (unregister-name s n)) (now (answer .entry)) [] (now (table .entry)) .answer ⌝ }
+    ensures { λ _. ⌜ now (table .exit) ≡ commanded caller (within (unregister-name s n)) (now (answer .entry)) [] (now (table .entry)) .table ⌝ }
+{
+    if answer.len() < ANSWER_WORDS {
+        return NO_ROOM;
+    }
+    put(answer, sgroup::unregister_name(table, caller, s, n))
+}
+
+// The names in the s_group, to the run `out`.
+#[no_mangle]
+pub extern "C" fn sgroup_registered_names(
+    table: &[u64],
+    caller: u32,
+    s: u32,
+    out: &mut [u64],
+    answer: &mut [u64],
+) -> u32
+    ensures { λ r. ⌜ r ≡ commanded caller (within (registered-names s)) (now (answer .entry)) (now (out .entry)) (now (table .entry)) .returned ⌝ }
+    ensures { λ _. ⌜ now (answer .exit) ≡ commanded caller (within (registered-names s)) (now (answer .entry)) (now (out .entry)) (now (table .entry)) .answer ⌝ }
+    ensures { λ _. ⌜ now (out .exit) ≡ commanded caller (within (registered-names s)) (now (answer .entry)) (now (out .entry)) (now (table .entry)) .list ⌝ }
+{
+    if answer.len() < ANSWER_WORDS {
+        return NO_ROOM;
+    }
+    put(answer, sgroup::registered_names(table, caller, s, out))
+}
+
+// What the caller finds under the name in the s_group.
+#[no_mangle]
+pub extern "C" fn sgroup_whereis_name(
+    table: &[u64],
+    caller: u32,
+    s: u32,
+    n: u32,
+    answer: &mut [u64],
+) -> u32
+    ensures { λ r. ⌜ r ≡ commanded caller (within (whereis-name s n)) (now (answer .entry)) [] (now (table .entry)) .returned ⌝ }
+    ensures { λ _. ⌜ now (answer .exit) ≡ commanded caller (within (whereis-name s n)) (now (answer .entry)) [] (now (table .entry)) .answer ⌝ }
+{
+    if answer.len() < ANSWER_WORDS {
+        return NO_ROOM;
+    }
+    put(answer, sgroup::whereis_name(table, caller, s, n))
+}
+
+// What the node finds under the name in the s_group; the caller connects with the node.
+#[no_mangle]
+pub extern "C" fn sgroup_whereis_name_at(
+    table: &mut [u64],
+    caller: u32,
+    node: u32,
+    s: u32,
+    n: u32,
+    answer: &mut [u64],
+) -> u32
+    ensures { λ r. ⌜ r ≡ commanded caller (whereis-name-at node s n) (now (answer .entry)) [] (now (table .entry)) .returned ⌝ }
+    ensures { λ _. ⌜ now (answer .exit) ≡ commanded caller (whereis-name-at node s n) (now (answer .entry)) [] (now (table .entry)) .answer ⌝ }
+    ensures { λ _. ⌜ now (table .exit) ≡ commanded caller (whereis-name-at node s n) (now (answer .entry)) [] (now (table .entry)) .table ⌝ }
+{
+    if answer.len() < ANSWER_WORDS {
+        return NO_ROOM;
+    }
+    put(answer, sgroup::whereis_name_at(table, caller, node, s, n))
+}
+
+// The caller sends to the pid, and connects with its host.
+#[no_mangle]
+pub extern "C" fn sgroup_send(table: &mut [u64], caller: u32, p: u32, answer: &mut [u64]) -> u32
+    ensures { λ r. ⌜ r ≡ commanded caller (send p) (now (answer .entry)) [] (now (table .entry)) .returned ⌝ }
+    ensures { λ _. ⌜ now (answer .exit) ≡ commanded caller (send p) (now (answer .entry)) [] (now (table .entry)) .answer ⌝ }
+    ensures { λ _. ⌜ now (table .exit) ≡ commanded caller (send p) (now (answer .entry)) [] (now (table .entry)) .table ⌝ }
+{
+    if answer.len() < ANSWER_WORDS {
+        return NO_ROOM;
+    }
+    put(answer, sgroup::send(table, caller, p))
+}
+
+// The caller sends to the pid that it finds under the name in the s_group.
+#[no_mangle]
+pub extern "C" fn sgroup_send_name(
+    table: &mut [u64],
+    caller: u32,
+    s: u32,
+    n: u32,
+    answer: &mut [u64],
+) -> u32
+    ensures { λ r. ⌜ r ≡ commanded caller (send-name s n) (now (answer .entry)) [] (now (table .entry)) .returned ⌝ }
+    ensures { λ _. ⌜ now (answer .exit) ≡ commanded caller (send-name s n) (now (answer .entry)) [] (now (table .entry)) .answer ⌝ }
+    ensures { λ _. ⌜ now (table .exit) ≡ commanded caller (send-name s n) (now (answer .entry)) [] (now (table .entry)) .table ⌝ }
+{
+    if answer.len() < ANSWER_WORDS {
+        return NO_ROOM;
+    }
+    put(answer, sgroup::send_name(table, caller, s, n))
+}
+
+// The caller sends to the pid that the node finds under the name in the s_group.
+#[no_mangle]
+pub extern "C" fn sgroup_send_at(
+    table: &mut [u64],
+    caller: u32,
+    node: u32,
+    s: u32,
+    n: u32,
+    answer: &mut [u64],
+) -> u32
+    ensures { λ r. ⌜ r ≡ commanded caller (send-at node s n) (now (answer .entry)) [] (now (table .entry)) .returned ⌝ }
+    ensures { λ _. ⌜ now (answer .exit) ≡ commanded caller (send-at node s n) (now (answer .entry)) [] (now (table .entry)) .answer ⌝ }
+    ensures { λ _. ⌜ now (table .exit) ≡ commanded caller (send-at node s n) (now (answer .entry)) [] (now (table .entry)) .table ⌝ }
+{
+    if answer.len() < ANSWER_WORDS {
+        return NO_ROOM;
+    }
+    put(answer, sgroup::send_at(table, caller, node, s, n))
+}
+
+// A new s_group of the set.
+#[no_mangle]
+pub extern "C" fn sgroup_new_s_group(
+    table: &mut [u64],
+    caller: u32,
+    s: u32,
+    set: u64,
+    answer: &mut [u64],
+) -> u32
+    ensures { λ r. ⌜ r ≡ commanded caller (within (new-s-group s set)) (now (answer .entry)) [] (now (table .entry)) .returned ⌝ }
+    ensures { λ _. ⌜ now (answer .exit) ≡ commanded caller (within (new-s-group s set)) (now (answer .entry)) [] (now (table .entry)) .answer ⌝ }
+    ensures { λ _. ⌜ now (table .exit) ≡ commanded caller (within (new-s-group s set)) (now (answer .entry)) [] (now (table .entry)) .table ⌝ }
+{
+    if answer.len() < ANSWER_WORDS {
+        return NO_ROOM;
+    }
+    put(answer, sgroup::new_s_group(table, caller, s, set))
+}
+
+// The set joins the s_group.
+#[no_mangle]
+pub extern "C" fn sgroup_add_nodes(
+    table: &mut [u64],
+    caller: u32,
+    s: u32,
+    set: u64,
+    answer: &mut [u64],
+) -> u32
+    ensures { λ r. ⌜ r ≡ commanded caller (within (add-nodes s set)) (now (answer .entry)) [] (now (table .entry)) .returned ⌝ }
+    ensures { λ _. ⌜ now (answer .exit) ≡ commanded caller (within (add-nodes s set)) (now (answer .entry)) [] (now (table .entry)) .answer ⌝ }
+    ensures { λ _. ⌜ now (table .exit) ≡ commanded caller (within (add-nodes s set)) (now (answer .entry)) [] (now (table .entry)) .table ⌝ }
+{
+    if answer.len() < ANSWER_WORDS {
+        return NO_ROOM;
+    }
+    put(answer, sgroup::add_nodes(table, caller, s, set))
+}
+
+// The members of the set leave the s_group.
+#[no_mangle]
+pub extern "C" fn sgroup_remove_nodes(
+    table: &mut [u64],
+    caller: u32,
+    s: u32,
+    set: u64,
+    answer: &mut [u64],
+) -> u32
+    ensures { λ r. ⌜ r ≡ commanded caller (remove-nodes s set) (now (answer .entry)) [] (now (table .entry)) .returned ⌝ }
+    ensures { λ _. ⌜ now (answer .exit) ≡ commanded caller (remove-nodes s set) (now (answer .entry)) [] (now (table .entry)) .answer ⌝ }
+    ensures { λ _. ⌜ now (table .exit) ≡ commanded caller (remove-nodes s set) (now (answer .entry)) [] (now (table .entry)) .table ⌝ }
+{
+    if answer.len() < ANSWER_WORDS {
+        return NO_ROOM;
+    }
+    put(answer, sgroup::remove_nodes(table, caller, s, set))
+}
+
+// The s_group goes, with its names.
+#[no_mangle]
+pub extern "C" fn sgroup_delete_s_group(
+    table: &mut [u64],
+    caller: u32,
+    s: u32,
+    answer: &mut [u64],
+) -> u32
+    ensures { λ r. ⌜ r ≡ commanded caller (delete-s-group s) (now (answer .entry)) [] (now (table .entry)) .returned ⌝ }
+    ensures { λ _. ⌜ now (answer .exit) ≡ commanded caller (delete-s-group s) (now (answer .entry)) [] (now (table .entry)) .answer ⌝ }
+    ensures { λ _. ⌜ now (table .exit) ≡ commanded caller (delete-s-group s) (now (answer .entry)) [] (now (table .entry)) .table ⌝ }
+{
+    if answer.len() < ANSWER_WORDS {
+        return NO_ROOM;
+    }
+    put(answer, sgroup::delete_s_group(table, caller, s))
+}
+
+// The nodes of the caller's groups, and how many they are.
+#[no_mangle]
+pub extern "C" fn sgroup_own_nodes(table: &[u64], caller: u32, answer: &mut [u64]) -> u32
+    ensures { λ r. ⌜ r ≡ commanded caller own-nodes (now (answer .entry)) [] (now (table .entry)) .returned ⌝ }
+    ensures { λ _. ⌜ now (answer .exit) ≡ commanded caller own-nodes (now (answer .entry)) [] (now (table .entry)) .answer ⌝ }
+{
+    if answer.len() < ANSWER_WORDS {
+        return NO_ROOM;
+    }
+    put(answer, sgroup::own_nodes(table, caller))
+}
+
+// The caller's s_groups, name and members, to the run `out`.
+#[no_mangle]
+pub extern "C" fn sgroup_own_s_groups(
+    table: &[u64],
+    caller: u32,
+    out: &mut [u64],
+    answer: &mut [u64],
+) -> u32
+    ensures { λ r. ⌜ r ≡ commanded caller own-s-groups (now (answer .entry)) (now (out .entry)) (now (table .entry)) .returned ⌝ }
+    ensures { λ _. ⌜ now (answer .exit) ≡ commanded caller own-s-groups (now (answer .entry)) (now (out .entry)) (now (table .entry)) .answer ⌝ }
+    ensures { λ _. ⌜ now (out .exit) ≡ commanded caller own-s-groups (now (answer .entry)) (now (out .entry)) (now (table .entry)) .list ⌝ }
+{
+    if answer.len() < ANSWER_WORDS {
+        return NO_ROOM;
+    }
+    put(answer, sgroup::own_s_groups(table, caller, out))
+}

@@ -1,0 +1,135 @@
+/* The Icespruce library for C: the s_group name service over one lent table of 64-bit words.
+ *
+ * Link with libsgroup_c.a (`tools/native-lib sgroup_c` builds it into target/native/).
+ *
+ * A run of words is a pointer and a length in words. A pointer is aligned for uint64_t and not null, even where the length is 0, and the runs of one
+ * call don't overlap. Nothing else is asked of a caller: each function is proved to end with the answer of its definition for every table,
+ * number and length, and to write no word but those that its comment names.
+ *
+ * A set of nodes is a word where node i stands for 2^i. The host of a pid is pid / 67108864, rounded down.
+ *
+ * Each function that takes `answer` writes four words there: kind, first number, second number, reason; numbers that a kind doesn't have are 0. It
+ * returns the reason. Where `answer` has fewer than four words nothing is called, nothing is written, and SGROUP_NO_ROOM is returned. */
+#ifndef SGROUP_H
+#define SGROUP_H
+
+#include <stdbool.h>
+#include <stddef.h>
+#include <stdint.h>
+
+#ifdef __cplusplus
+extern "C" {
+#endif
+
+/* how many words a table has, and an answer */
+#define SGROUP_TABLE_WORDS 1220
+#define SGROUP_ANSWER_WORDS 4
+
+/* returned where `answer` is too short; no reason has this number */
+#define SGROUP_NO_ROOM UINT32_MAX
+
+/* the kinds of values: the first word of an answer */
+enum sgroup_kind {
+    SGROUP_OK = 1,            /* an opening went through */
+    SGROUP_TRUE = 2,          /* true */
+    SGROUP_FALSE = 3,         /* false */
+    SGROUP_ERROR = 4,         /* error */
+    SGROUP_UNDEFINED = 5,     /* undefined */
+    SGROUP_PID = 6,           /* first: the pid */
+    SGROUP_GROUP = 7,         /* first: the s_group's name; second: the set that was given */
+    SGROUP_NODES = 8,         /* first: a set of nodes; second: how many they are */
+    SGROUP_LIST = 9           /* first: how many words the list has in `out` */
+};
+
+/* the reasons: the fourth word of an answer */
+enum sgroup_reason {
+    SGROUP_DONE = 0,              /* the rule's main case */
+    SGROUP_TABLE_LENGTH = 1,      /* the table run isn't 1,220 words */
+    SGROUP_ROSTER_SIZE = 2,       /* opening: n isn't 1 to 64 */
+    SGROUP_UNSOUND = 3,           /* the table is unsound (not for opening) */
+    SGROUP_CALLER_UNKNOWN = 4,    /* the caller isn't on the roster */
+    SGROUP_GROUP_NAME_RANGE = 5,  /* s_group name out of range */
+    SGROUP_NAME_ZERO = 6,         /* process name zero */
+    SGROUP_NODE_UNKNOWN = 7,      /* a node given, or a given pid's host, isn't on the roster */
+    SGROUP_GROUP_UNKNOWN = 8,     /* no s_group of that name */
+    SGROUP_NOT_MEMBER = 9,        /* the asking node is not a member */
+    SGROUP_NAME_TAKEN = 10,       /* name already registered there */
+    SGROUP_PID_TAKEN = 11,        /* pid already registered there */
+    SGROUP_NOT_REGISTERED = 12,   /* name not registered there */
+    SGROUP_NAMESPACE_FULL = 13,   /* the namespace holds 32 names and would grow */
+    SGROUP_CALLER_OUTSIDE = 14,   /* new_s_group: the caller isn't in the set */
+    SGROUP_GROUP_TAKEN = 15,      /* new_s_group: name in use */
+    SGROUP_GROUPS_FULL = 16,      /* new_s_group: 32 s_groups exist */
+    SGROUP_LIST_SHORT = 17        /* the run `out` is shorter than the list */
+};
+
+/* Whether the run is a sound table. Writes nothing. */
+bool sgroup_is_sound(const uint64_t *table, size_t table_len);
+
+/* Opens the table for n nodes, 1 to 64, some of them hidden: no s_groups, no connections, each normal node alone in its free group.
+ * OK; the table may hold anything before. */
+uint32_t sgroup_open(uint64_t *table, size_t table_len, uint32_t n, uint64_t hidden, uint64_t *answer, size_t answer_len);
+
+/* Registers the pid p under the name n in the s_group s. TRUE. Reasons 8 to 11 and 13: FALSE. */
+uint32_t sgroup_register_name(uint64_t *table, size_t table_len, uint32_t caller, uint32_t s, uint32_t n, uint32_t p, uint64_t *answer,
+                              size_t answer_len);
+
+/* Registers p under n in s, in place of the pid that n had. TRUE. Reasons 8, 9, 11 and 13: FALSE. */
+uint32_t sgroup_re_register_name(uint64_t *table, size_t table_len, uint32_t caller, uint32_t s, uint32_t n, uint32_t p, uint64_t *answer,
+                                 size_t answer_len);
+
+/* Takes n out of s. TRUE, with reason 12 where it is not there. Reasons 8 and 9: FALSE. */
+uint32_t sgroup_unregister_name(uint64_t *table, size_t table_len, uint32_t caller, uint32_t s, uint32_t n, uint64_t *answer,
+                                size_t answer_len);
+
+/* The names in s, ascending, to the run `out`, each as s * 2^32 + name. LIST; only the list's words are written. Reasons 8 and 9: the empty list.
+ * Reason 17: ERROR, nothing is written to `out`. */
+uint32_t sgroup_registered_names(const uint64_t *table, size_t table_len, uint32_t caller, uint32_t s, uint64_t *out, size_t out_len,
+                                 uint64_t *answer, size_t answer_len);
+
+/* What the caller finds under n in s. PID. Reasons 8, 9 and 12: UNDEFINED. */
+uint32_t sgroup_whereis_name(const uint64_t *table, size_t table_len, uint32_t caller, uint32_t s, uint32_t n, uint64_t *answer,
+                             size_t answer_len);
+
+/* What `node` finds under n in s; 0 is taken for s and finds nothing. The caller connects with `node`, found or not. PID. Reasons 8, 9 and 12:
+ * UNDEFINED. */
+uint32_t sgroup_whereis_name_at(uint64_t *table, size_t table_len, uint32_t caller, uint32_t node, uint32_t s, uint32_t n, uint64_t *answer,
+                                size_t answer_len);
+
+/* The caller sends to the pid p, and connects with its host. PID. */
+uint32_t sgroup_send(uint64_t *table, size_t table_len, uint32_t caller, uint32_t p, uint64_t *answer, size_t answer_len);
+
+/* The caller sends to the pid that it finds under n in s, and connects with its host. PID. Reasons 8, 9 and 12: UNDEFINED. */
+uint32_t sgroup_send_name(uint64_t *table, size_t table_len, uint32_t caller, uint32_t s, uint32_t n, uint64_t *answer, size_t answer_len);
+
+/* The caller sends to the pid that `node` finds under n in s, as sgroup_whereis_name_at, and connects with its host. PID. */
+uint32_t sgroup_send_at(uint64_t *table, size_t table_len, uint32_t caller, uint32_t node, uint32_t s, uint32_t n, uint64_t *answer,
+                        size_t answer_len);
+
+/* A new s_group s of the nodes in `set`, the caller among them. GROUP. */
+uint32_t sgroup_new_s_group(uint64_t *table, size_t table_len, uint32_t caller, uint32_t s, uint64_t set, uint64_t *answer,
+                            size_t answer_len);
+
+/* The nodes of `set` join s. GROUP. */
+uint32_t sgroup_add_nodes(uint64_t *table, size_t table_len, uint32_t caller, uint32_t s, uint64_t set, uint64_t *answer, size_t answer_len);
+
+/* The members of s that are in `set` leave it; an s_group left empty is deleted. TRUE. */
+uint32_t sgroup_remove_nodes(uint64_t *table, size_t table_len, uint32_t caller, uint32_t s, uint64_t set, uint64_t *answer,
+                             size_t answer_len);
+
+/* The s_group s goes, with its names. TRUE. */
+uint32_t sgroup_delete_s_group(uint64_t *table, size_t table_len, uint32_t caller, uint32_t s, uint64_t *answer, size_t answer_len);
+
+/* The nodes of the caller's groups and how many they are. NODES. */
+uint32_t sgroup_own_nodes(const uint64_t *table, size_t table_len, uint32_t caller, uint64_t *answer, size_t answer_len);
+
+/* The caller's s_groups by name to the run `out`, two words each: name, members. LIST; only the list's words are written. Reason 17: ERROR,
+ * nothing is written to `out`. */
+uint32_t sgroup_own_s_groups(const uint64_t *table, size_t table_len, uint32_t caller, uint64_t *out, size_t out_len, uint64_t *answer,
+                             size_t answer_len);
+
+#ifdef __cplusplus
+}
+#endif
+
+#endif

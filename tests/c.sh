@@ -1,0 +1,11 @@
+#!/usr/bin/env bash
+# The C example compiles without a warning against include/sgroup.h and the proved library, and prints what is written by hand beside it.
+set -uo pipefail
+cd "$(dirname "${BASH_SOURCE[0]}")/.."
+said=$(mktemp)
+trap 'rm -f "$said"' EXIT
+tools/native-lib sgroup_c >"$said" 2>&1 || { cat "$said"; exit 1; }
+mkdir -p target/c
+cc -std=c11 -O2 -Wall -Wextra -Wpedantic -Werror -Iinclude examples/c/stores.c -o target/c/stores target/native/libsgroup_c.a || exit 1
+target/c/stores >"$said" || { echo "stores: exit $?"; exit 1; }
+diff "$said" examples/c/stores.printed

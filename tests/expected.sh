@@ -5,12 +5,12 @@ cd "$(dirname "${BASH_SOURCE[0]}")/.."
 page=docs/EXPECTED.md
 crate=crates/sgroup_run
 
-# The rows of the page's tables: the first two columns, as `LINE` NOTE<TAB>`PRINTED`. A column ends where ` | ` stands outside a line.
+# The first two columns of the page's tables: `LINE` with a note behind it or none, a tab, `PRINTED`.
 rows() {
     sed -n 's/^| \(`.*`[^`|]*\) | \(`[^`]*`\) | [^|]* |$/\1\t\2/p' "$page"
 }
 
-# Each row's lines: LINE NOTE PRINTED, where a note repeats a line, repeats its text or leaves out its newline.
+# The lines of each row, and what they print. A note says that the line comes for each K, that its text is repeated, or that its newline is missing.
 lines=$(mktemp)
 printed=$(mktemp)
 trap 'rm -f "$lines" "$printed"' EXIT

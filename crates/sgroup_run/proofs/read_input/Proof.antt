@@ -3,7 +3,6 @@
 use borrow.Author.Needs.{needs}
 use mathlib.Core.Path.{_≡_}
 use Prim.Native.Nat.{_≤_, _-_}
-use native.Mathlib.Omega.{arith}
 use lib.ListN.{length}
 use Rattle.sgroup_run.proofs.read_input.Statement.{statement}
 use Rattle.sgroup_run.proofs.read_input.Tie as tie

@@ -33,9 +33,9 @@ pub fn whereis_name_at(t: &mut [u64], caller: u32, node: u32, s: u32, n: u32) ->
             reason,
         };
     };
-    let found = look(t, node, s, n);
+    let seen = look(t, node, s, n);
     connect(t, caller, node);
-    match found {
+    match seen {
         Lookup::Found(p) => Answer {
             value: Value::Pid(p),
             reason: Reason::Done,
@@ -114,10 +114,10 @@ pub fn send_at(t: &mut [u64], caller: u32, node: u32, s: u32, n: u32) -> Answer
     let found = look(t, node, s, n);
     connect(t, caller, node);
     match found {
-        Lookup::Found(p) => {
-            connect(t, caller, p / PIDS_PER_HOST);
+        Lookup::Found(pid) => {
+            connect(t, caller, pid / PIDS_PER_HOST);
             Answer {
-                value: Value::Pid(p),
+                value: Value::Pid(pid),
                 reason: Reason::Done,
             }
         }

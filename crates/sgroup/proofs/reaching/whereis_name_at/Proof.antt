@@ -47,11 +47,11 @@ connect-requires c κs =
     let d = asking-done (getD (a .t .now) 0 0) (a .caller) (a .node) (a .s) (a .n) (sym (c .before .before .before .before .before .asking-reason .ensures) ∙ c .before .before .before .enum-told .given .1) in
     (p .pre .0, (in-limit (a .t .now) (p .pre .1) (d .0), in-limit (a .t .now) (p .pre .1) (d .3)))
 
-enum-known-found : tie.Need-enum-known-found
-enum-known-found c = search needs
+enum-known-seen : tie.Need-enum-known-seen
+enum-known-seen c = search needs
 
-enum-known-found-2 : tie.Need-enum-known-found-2
-enum-known-found-2 c = search needs
+enum-known-seen-2 : tie.Need-enum-known-seen-2
+enum-known-seen-2 c = search needs
 
 same-length : tie.Need-same-length
 same-length c = search needs
@@ -64,7 +64,7 @@ returns-2 c =
     let t = a .t .now in
     let k = c .before .before .before .before .before .connect in
     whereis-told t (p .pre .1) (a .caller) (a .node) (a .s) (a .n) (c .before .before .before .before .before .before .before .before .before .before .before .asking-reason .ensures) (c .before .before .before .before .before .before .before .before .before .enum-told .given .1)
-    (Found (c .before .found .given .0 .0)) (ap looked-up (sym (c .before .found .given .1)) ∙ c .before .before .before .before .before .before .before .look .ensures) (k .last .0)
+    (Found (c .before .seen .given .0 .0)) (ap looked-up (sym (c .before .seen .given .1)) ∙ c .before .before .before .before .before .before .before .look .ensures) (k .last .0)
     (k .ensures (here t) (base t (p .pre .1)) (regular t (p .pre .1)))
 
 same-length-2 : tie.Need-same-length-2
@@ -78,7 +78,7 @@ returns-3 c =
     let t = a .t .now in
     let k = c .before .before .before .before .before .connect in
     whereis-told t (p .pre .1) (a .caller) (a .node) (a .s) (a .n) (c .before .before .before .before .before .before .before .before .before .before .before .asking-reason .ensures) (c .before .before .before .before .before .before .before .before .before .enum-told .given .1)
-    (Missing (c .before .found2 .given .0 .0)) (ap looked-up (sym (c .before .found2 .given .1)) ∙ c .before .before .before .before .before .before .before .look .ensures) (k .last .0)
+    (Missing (c .before .seen2 .given .0 .0)) (ap looked-up (sym (c .before .seen2 .given .1)) ∙ c .before .before .before .before .before .before .before .look .ensures) (k .last .0)
     (k .ensures (here t) (base t (p .pre .1)) (regular t (p .pre .1)))
 
 pub whereis-name-at-spec : {M : Type 1} → statement M
@@ -92,8 +92,8 @@ whereis-name-at-spec =
     returns
     look-requires
     connect-requires
-    enum-known-found
-    enum-known-found-2
+    enum-known-seen
+    enum-known-seen-2
     same-length
     returns-2
     same-length-2

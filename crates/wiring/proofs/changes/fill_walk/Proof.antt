@@ -1,4 +1,4 @@
--- `wiring::changes::fill` meets its contract: a walk over the set, in which each member's word becomes the given one.
+-- `wiring::changes::fill_walk` meets its contract: a walk over the set, in which each member's word becomes the given one.
 -- Assumes nothing.
 use borrow.Author.Needs.{needs}
 use mathlib.Core.Path.{refl}
@@ -6,8 +6,8 @@ use mathlib.Core.Logic.{⊎-elim}
 use Prim.Native.Nat.{_<_}
 use native.Mathlib.Omega.{arith}
 use Rattle.wiring.specs.Places.{Walk, walk-less, walk-store, walk-past, walk-end}
-use Rattle.wiring.proofs.changes.fill.Statement.{statement}
-use Rattle.wiring.proofs.changes.fill.Tie as tie
+use Rattle.wiring.proofs.changes.fill_walk.Statement.{statement}
+use Rattle.wiring.proofs.changes.fill_walk.Tie as tie
 
 abbrev Inv-loop : tie.InvT-loop
 Inv-loop words₀ set word left₀ words left = Walk (λ i w. word) set words₀ left words
@@ -54,8 +54,8 @@ same-length c = search needs
 returns : tie.Need-returns Inv-loop μ-loop
 returns c = walk-end _ (c .before .loop .inv) (search needs)
 
-pub fill-spec : {M : Type 1} → statement M
-fill-spec =
+pub fill-walk-spec : {M : Type 1} → statement M
+fill-walk-spec =
     tie.close
     (tie.spec
     Inv-loop

@@ -4,7 +4,7 @@
  *
  * A run of words is a pointer and a length in words. A pointer is aligned for uint64_t and not null, even where the length is 0, and the runs of one
  * call don't overlap. Nothing else is asked of a caller: each function is proved to end with the answer of its definition for every table,
- * number and length, and to write no word but those that its comment names.
+ * number and length, and to write what the definition says and no other word.
  *
  * A set of nodes is a word where node i stands for 2^i. The host of a pid is pid / 67108864, rounded down.
  *

@@ -1,4 +1,4 @@
-//! The same in plain Rust, written for speed: what the proved library is held against.
+//! Namespaces in plain Rust, written for speed.
 
 pub const ABSENT: u64 = 1 << 32;
 const UNFIT: u64 = (1 << 32) + 1;
@@ -46,6 +46,11 @@ pub fn drop_name(ns: &mut [u64], count: usize, name: u32) -> u32 {
 
 #[inline(never)]
 pub fn is_sound(ns: &[u64], count: usize, size: u32) -> bool {
+    sound(ns, count, size)
+}
+
+#[inline(always)]
+pub fn sound(ns: &[u64], count: usize, size: u32) -> bool {
     if count > ns.len() {
         return false;
     }
@@ -62,9 +67,10 @@ pub fn is_sound(ns: &[u64], count: usize, size: u32) -> bool {
             return false;
         }
         last = name;
-        let mark = (pid >> 20).wrapping_add(pid & 0xffff) as usize % 1024;
+        let mark = (pid >> 22).wrapping_add(pid & 0xffff) as usize % 1024;
         let bit = 1 << (mark % 64);
-        if seen[mark / 64] & bit != 0 && used[..i].iter().fold(false, |f, v| f | (*v as u32 == pid)) {
+        if seen[mark / 64] & bit != 0 && used[..i].iter().fold(false, |f, v| f | (*v as u32 == pid))
+        {
             return false;
         }
         seen[mark / 64] |= bit;

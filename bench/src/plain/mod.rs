@@ -1,0 +1,6 @@
+//! The same as the proved libraries in plain Rust, written for speed over the same words: what they are held against.
+
+pub mod commands;
+pub mod namespace;
+pub mod sound;
+pub mod steps;

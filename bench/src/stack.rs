@@ -1,0 +1,107 @@
+//! How much stack a proved call takes: the stack of a thread of its own is painted below the caller, and what is overwritten is measured.
+
+use crate::api::{Api, PROVED};
+use crate::call::{calls, Asked, Lent, Which};
+use crate::commands::{free_rows, main_cases};
+use crate::tables::{table, FULL};
+use model::prng::Prng;
+
+const PAINT: u64 = 0xa5a5_5a5a_c3c3_3c3c;
+const DEPTH: usize = 16 * 1024;
+
+/// Paints the stack below the caller; where the paint begins.
+#[inline(never)]
+fn paint() -> *const u64 {
+    let mut words = [0u64; DEPTH / 8];
+    for word in words.iter_mut() {
+        unsafe { std::ptr::write_volatile(word, PAINT) };
+    }
+    std::hint::black_box(&mut words).as_ptr()
+}
+
+/// How far below this frame a call writes: the paint is looked at from its far end to the first word that was painted over.
+#[inline(never)]
+fn depth(call: &mut dyn FnMut() -> u64) -> usize {
+    let here = 0u64;
+    let mut at = paint();
+    std::hint::black_box(call());
+    while unsafe { std::ptr::read_volatile(at) } == PAINT {
+        at = at.wrapping_add(1);
+    }
+    std::hint::black_box(&here) as *const u64 as usize - at as usize
+}
+
+unsafe extern "C" fn nothing(_: *const u64, _: usize) -> bool {
+    false
+}
+
+/// The test, then each command; bytes beyond those of a call of nothing.
+pub fn depths(seed: u64) {
+    let measured = std::thread::Builder::new()
+        .stack_size(1 << 20)
+        .spawn(move || measure(seed))
+        .expect("a thread")
+        .join()
+        .expect("its result");
+    println!("\n{:<20} {:>12}", "function", "stack bytes");
+    for (what, bytes) in measured {
+        println!("{what:<20} {bytes:>12}");
+    }
+}
+
+fn measure(seed: u64) -> Vec<(String, usize)> {
+    let mut prng = Prng::new(seed);
+    let words = table(&mut prng, FULL);
+    let test = |api: &Api, words: &[u64]| {
+        u64::from(unsafe { (api.is_sound)(words.as_ptr(), words.len()) })
+    };
+    let base = depth(&mut || {
+        test(
+            &Api {
+                is_sound: nothing,
+                ..PROVED
+            },
+            &words,
+        )
+    });
+    let mut all = vec![(
+        "IsSound".to_string(),
+        depth(&mut || test(&PROVED, &words)).saturating_sub(base),
+    )];
+    let none = Asked {
+        n: 64,
+        ..Asked::default()
+    };
+    all.push((
+        "Open".to_string(),
+        worst(base, Which::Open, &words, &[none]),
+    ));
+    for which in Which::COMMANDS {
+        let smaller = table(
+            &mut prng,
+            crate::tables::Size {
+                groups: 31,
+                names: 31,
+                ..FULL
+            },
+        );
+        let asked = main_cases(&mut prng, which, &smaller, 64);
+        let mut bytes = worst(base, which, &smaller, &asked);
+        for (_, other, table, one) in free_rows() {
+            if other == which {
+                bytes = bytes.max(worst(base, which, &table, &[one]));
+            }
+        }
+        all.push((format!("{which:?}"), bytes));
+    }
+    all
+}
+
+/// The deepest of these calls, each on the table as it was.
+fn worst(base: usize, which: Which, words: &[u64], asked: &[Asked]) -> usize {
+    let deepest = asked.iter().map(|one| {
+        let mut lent = [Lent::new(words)];
+        depth(&mut || calls(&PROVED, which, &mut lent, std::slice::from_ref(one)))
+    });
+    deepest.max().unwrap_or(0).saturating_sub(base)
+}

@@ -1,0 +1,127 @@
+//! Comparison of the library with the model on random calls: `library SEED WALKS`, or `library again FILE..` for kept cases. Walk k has the seed
+//! SEED + k. Prints what was covered; a case that differs is made smaller and kept in target/compare/. The status is 0 where nothing differs and every
+//! reason that a command can have was seen.
+
+use compare::case::{difference, ran, Case};
+use compare::random::{Kind, Walk, STEPS};
+use compare::{kept, smaller};
+use model::command::{Form, Request};
+use std::collections::BTreeMap;
+use std::fs;
+use std::process::ExitCode;
+
+fn main() -> ExitCode {
+    let arguments: Vec<String> = std::env::args().skip(1).collect();
+    match arguments.as_slice() {
+        [word, files @ ..] if word == "again" && !files.is_empty() => again(files),
+        [seed, walks] => match (seed.parse(), walks.parse()) {
+            (Ok(seed), Ok(walks)) => walked(seed, walks),
+            _ => usage(),
+        },
+        _ => usage(),
+    }
+}
+
+fn usage() -> ExitCode {
+    eprintln!("usage: library SEED WALKS | library again FILE..");
+    ExitCode::from(2)
+}
+
+/// Runs kept cases once more.
+fn again(files: &[String]) -> ExitCode {
+    let mut failed = false;
+    for file in files {
+        let case = fs::read_to_string(file)
+            .ok()
+            .and_then(|text| kept::read(&text));
+        let verdict = match case {
+            Some(case) => difference(&case),
+            None => Some("no case of the library".to_string()),
+        };
+        failed |= verdict.is_some();
+        println!(
+            "{file}: {}",
+            verdict.unwrap_or_else(|| "agrees".to_string())
+        );
+    }
+    ExitCode::from(u8::from(failed))
+}
+
+/// What was covered so far.
+#[derive(Default)]
+struct Seen {
+    kinds: BTreeMap<Kind, usize>,
+    /// How often a form, or opening, gave a reason.
+    reasons: BTreeMap<(Option<Form>, u32), usize>,
+}
+
+impl Seen {
+    fn take(&mut self, kind: Kind, case: &Case) {
+        *self.kinds.entry(kind).or_default() += 1;
+        let form = match &case.request {
+            Request::Open { .. } => None,
+            Request::Call { command, .. } => Some(command.form()),
+        };
+        *self.reasons.entry((form, ran(case).returned)).or_default() += 1;
+    }
+
+    /// Reasons that a command can have and that never came.
+    fn missing(&self) -> Vec<String> {
+        let opening = [0, 1, 2, 7].map(|reason| (None, reason));
+        let commands = Form::ALL.iter().flat_map(|form| {
+            let own = form.reasons().iter().map(|reason| reason.number());
+            [0, 1, 3]
+                .into_iter()
+                .chain(own)
+                .map(|reason| (Some(*form), reason))
+        });
+        let all = opening.into_iter().chain(commands);
+        let never = all.filter(|pair| !self.reasons.contains_key(pair));
+        never
+            .map(|(form, reason)| format!("{form:?} {reason}"))
+            .collect()
+    }
+}
+
+fn walked(seed: u64, walks: u64) -> ExitCode {
+    println!("library: seed {seed}, {walks} walks of {STEPS} steps");
+    let mut seen = Seen::default();
+    for k in 0..walks {
+        let mut walk = Walk::new(seed + k);
+        for step in 0..STEPS {
+            for (kind, case) in walk.step() {
+                seen.take(kind, &case);
+                if let Some(wrong) = difference(&case) {
+                    report(seed + k, step, &case, &wrong);
+                    return ExitCode::FAILURE;
+                }
+            }
+        }
+    }
+    let cases: usize = seen.kinds.values().sum();
+    println!("library: {cases} cases {:?}, 0 differences", seen.kinds);
+    let missing = seen.missing();
+    println!(
+        "library: {} pairs of command and reason seen, {} missing",
+        seen.reasons.len(),
+        missing.len()
+    );
+    for pair in &missing {
+        println!("library: never seen: {pair}");
+    }
+    ExitCode::from(u8::from(!missing.is_empty()))
+}
+
+fn report(seed: u64, step: usize, case: &Case, wrong: &str) {
+    println!("library: walk {seed}, step {step}: {wrong}");
+    let small = smaller::smaller(case, &|case| difference(case).is_some());
+    let path = format!("target/compare/library-{seed}-{step}.case");
+    let written =
+        fs::create_dir_all("target/compare").and_then(|()| fs::write(&path, kept::text(&small)));
+    match written {
+        Ok(()) => println!("library: made smaller and kept in {path}:"),
+        Err(error) => println!("library: {path} can't be written, {error}:"),
+    }
+    print!("{}", kept::text(&small));
+    println!("{}", difference(&small).unwrap_or_default());
+}

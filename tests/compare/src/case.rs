@@ -1,0 +1,126 @@
+//! One call with its lent runs, and how the library's outcome differs from the model's.
+
+use crate::library::{self, ANSWER_WORDS, NO_ROOM};
+use model::command::{Command, Request};
+use model::compare::outcome;
+use model::sound::failing_clauses;
+use model::table::WORDS;
+
+/// A request with the runs that are lent to it.
+#[derive(Clone, Debug, PartialEq, Eq)]
+pub struct Case {
+    pub request: Request,
+    pub table: Vec<u64>,
+    pub out: Vec<u64>,
+    pub answer: Vec<u64>,
+}
+
+/// What the library made of a case.
+pub struct Ran {
+    pub returned: u32,
+    pub table: Vec<u64>,
+    pub out: Vec<u64>,
+    pub answer: Vec<u64>,
+}
+
+/// Runs the case through the library.
+pub fn ran(case: &Case) -> Ran {
+    let mut after = Ran {
+        returned: 0,
+        table: case.table.clone(),
+        out: case.out.clone(),
+        answer: case.answer.clone(),
+    };
+    after.returned = library::call(
+        &case.request,
+        &mut after.table,
+        &mut after.out,
+        &mut after.answer,
+    );
+    after
+}
+
+/// What the model says the same runs are afterwards.
+pub fn expected(case: &Case) -> Ran {
+    if case.answer.len() < ANSWER_WORDS {
+        return Ran {
+            returned: NO_ROOM,
+            table: case.table.clone(),
+            out: case.out.clone(),
+            answer: case.answer.clone(),
+        };
+    }
+    let told = outcome(&case.table, &case.request, case.out.len());
+    let mut answer = case.answer.clone();
+    answer[..ANSWER_WORDS].copy_from_slice(&[
+        u64::from(told.kind),
+        told.first,
+        told.second,
+        u64::from(told.reason),
+    ]);
+    Ran {
+        returned: told.reason,
+        out: told.answer_run(&case.out),
+        answer,
+        table: told.table,
+    }
+}
+
+/// Whether the model finds the run sound.
+pub fn sound(table: &[u64]) -> bool {
+    table.len() == WORDS && failing_clauses(table).is_empty()
+}
+
+/// How the library differs from the model on this case, or from what 01 says of every call; none where it doesn't.
+pub fn difference(case: &Case) -> Option<String> {
+    let (ours, theirs) = (ran(case), expected(case));
+    if ours.returned != theirs.returned {
+        return Some(format!(
+            "returned {}, the model {}",
+            ours.returned, theirs.returned
+        ));
+    }
+    different_word("answer", &ours.answer, &theirs.answer)
+        .or_else(|| different_word("list", &ours.out, &theirs.out))
+        .or_else(|| different_word("table", &ours.table, &theirs.table))
+        .or_else(|| test_differs(&case.table))
+        .or_else(|| left_unsound(case, &ours))
+        .or_else(|| wrote_on_refusal(case, &ours))
+}
+
+fn different_word(run: &str, ours: &[u64], theirs: &[u64]) -> Option<String> {
+    let place = (0..ours.len()).find(|i| ours[*i] != theirs[*i])?;
+    Some(format!(
+        "{run} word {place} is {}, the model's {}",
+        ours[place], theirs[place]
+    ))
+}
+
+fn test_differs(table: &[u64]) -> Option<String> {
+    let ours = library::is_sound(table);
+    (ours != sound(table)).then(|| format!("the test says {ours}"))
+}
+
+/// Every call leaves a sound table sound.
+fn left_unsound(case: &Case, ours: &Ran) -> Option<String> {
+    let broken = sound(&case.table) && !sound(&ours.table);
+    broken.then(|| "a sound table is left unsound".to_string())
+}
+
+/// A refusal writes nothing but the connection of the remote forms under 8 to 16.
+fn wrote_on_refusal(case: &Case, ours: &Ran) -> Option<String> {
+    let remote = matches!(
+        &case.request,
+        Request::Call {
+            command: Command::WhereisNameAt { .. } | Command::SendNameAt { .. },
+            ..
+        }
+    );
+    let silent = match ours.returned {
+        0 => false,
+        8..=16 => !remote,
+        _ => true,
+    };
+    let wrote = silent && (ours.table != case.table || ours.out != case.out);
+    wrote.then(|| format!("a refusal with reason {} wrote", ours.returned))
+}

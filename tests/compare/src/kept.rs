@@ -1,0 +1,42 @@
+//! A failing case as a file, and back. Lines: `request LINE`, then `table`, `out` and `answer`, each with its length and the words that aren't zero
+//! as PLACE=WORD.
+
+use crate::case::Case;
+use model::script::parse;
+
+/// The case as text.
+pub fn text(case: &Case) -> String {
+    let run = |name: &str, words: &[u64]| {
+        let held = words.iter().enumerate().filter(|(_, word)| **word != 0);
+        let held: String = held
+            .map(|(place, word)| format!(" {place}={word}"))
+            .collect();
+        format!("{name} {}{held}\n", words.len())
+    };
+    format!("request {}\n", case.request.line())
+        + &run("table", &case.table)
+        + &run("out", &case.out)
+        + &run("answer", &case.answer)
+}
+
+/// The case of a text; none where it isn't one.
+pub fn read(text: &str) -> Option<Case> {
+    let mut lines = text.lines();
+    let line = lines.next()?.strip_prefix("request ")?;
+    let request = parse(format!("{line}\n").as_bytes())?;
+    let mut run = |name: &str| -> Option<Vec<u64>> {
+        let mut fields = lines.next()?.strip_prefix(name)?.split_whitespace();
+        let mut words = vec![0; fields.next()?.parse().ok()?];
+        for field in fields {
+            let (place, word) = field.split_once('=')?;
+            *words.get_mut(place.parse::<usize>().ok()?)? = word.parse().ok()?;
+        }
+        Some(words)
+    };
+    Some(Case {
+        request,
+        table: run("table")?,
+        out: run("out")?,
+        answer: run("answer")?,
+    })
+}

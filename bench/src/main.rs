@@ -18,7 +18,11 @@ const WALKS: u64 = 200;
 
 fn main() {
     let mut arguments = std::env::args().skip(1);
-    let seed = arguments.next().and_then(|word| word.parse().ok());
+    let word = arguments.next();
+    if word.as_deref() == Some(scripts::PLAIN) {
+        return scripts::run_plain();
+    }
+    let seed = word.and_then(|word| word.parse().ok());
     let seed = seed.expect("usage: bench SEED [PROGRAM WORD..]");
     let program: Vec<String> = arguments.collect();
     println!("seed {seed}");

@@ -1,4 +1,4 @@
-//! Whole scripts through the compiled program, the start of its process among the time.
+//! Whole scripts through the compiled program and through plain Rust, each in a process of its own whose start is among the time.
 
 use std::io::Write;
 use std::process::{Command, Stdio};
@@ -6,19 +6,37 @@ use std::time::Instant;
 
 const RUNS: usize = 60;
 
-/// One run, in milliseconds, until the program has ended.
-fn run(program: &[String], script: &[u8]) -> f64 {
-    let start = Instant::now();
+/// The word by which this program runs a script in plain Rust.
+pub const PLAIN: &str = "plain-script";
+
+/// Runs the script of standard input in plain Rust.
+pub fn run_plain() {
+    let mut script = Vec::new();
+    std::io::Read::read_to_end(&mut std::io::stdin(), &mut script).expect("a script to read");
+    let printed = crate::plain::script::run(&script);
+    std::io::stdout()
+        .write_all(&printed)
+        .expect("room for what it prints");
+}
+
+/// What the program prints for the script.
+fn printed(program: &[String], script: &[u8]) -> Vec<u8> {
     let mut child = Command::new(&program[0])
         .args(&program[1..])
         .stdin(Stdio::piped())
-        .stdout(Stdio::null())
+        .stdout(Stdio::piped())
         .spawn()
         .expect("the program runs");
     let mut input = child.stdin.take().expect("its standard input");
     input.write_all(script).expect("it takes the script");
     drop(input);
-    assert!(child.wait().expect("it ends").success());
+    child.wait_with_output().expect("it ends").stdout
+}
+
+/// One run, in milliseconds, until the program has ended.
+fn time(program: &[String], script: &[u8]) -> f64 {
+    let start = Instant::now();
+    std::hint::black_box(printed(program, script));
     start.elapsed().as_nanos() as f64 / 1e6
 }
 
@@ -45,11 +63,13 @@ fn lookups() -> Vec<u8> {
     Vec::new()
 }
 
-/// The best of many runs of each script.
+/// The best of many runs of each script by turns, once both print the same.
 pub fn times(seed: u64, program: &[String]) {
+    let own = std::env::current_exe().expect("this program's own path");
+    let plain = [own.to_string_lossy().into_owned(), PLAIN.to_string()];
     println!(
-        "\n{:<30} {:>8} {:>8} {:>8}",
-        "script", "bytes", "lines", "ms"
+        "\n{:<30} {:>8} {:>8} {:>10} {:>9} {:>7}",
+        "whole scripts", "bytes", "lines", "proved ms", "plain ms", "ratio"
     );
     let random = model::generate::script(seed, 4_000);
     for (what, script) in [
@@ -57,10 +77,21 @@ pub fn times(seed: u64, program: &[String]) {
         ("random commands", random),
         ("a full table, then lookups", lookups()),
     ] {
+        assert!(
+            printed(program, &script) == printed(&plain, &script),
+            "{what}: they print the same"
+        );
         let lines = script.iter().filter(|byte| **byte == b'\n').count();
-        let best = (0..RUNS)
-            .map(|_| run(program, &script))
-            .fold(f64::MAX, f64::min);
-        println!("{what:<30} {:>8} {lines:>8} {best:>8.2}", script.len());
+        let mut best = [f64::MAX; 2];
+        for _ in 0..RUNS {
+            best[0] = best[0].min(time(program, &script));
+            best[1] = best[1].min(time(&plain, &script));
+        }
+        let [ours, theirs] = best;
+        println!(
+            "{what:<30} {:>8} {lines:>8} {ours:>10.2} {theirs:>9.2} {:>7.2}",
+            script.len(),
+            ours / theirs
+        );
     }
 }

@@ -2,5 +2,6 @@
 
 pub mod commands;
 pub mod namespace;
+pub mod script;
 pub mod sound;
 pub mod steps;

@@ -10,8 +10,7 @@ pub mod Renamed
 pub mod NamesHere
 pub mod Settled
 pub mod Ends
-pub mod Gaps
-pub mod Moves
+pub mod Shifted
 pub mod Loosed
 pub mod Connecting
 pub mod Freeing

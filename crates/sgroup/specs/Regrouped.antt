@@ -14,18 +14,17 @@ use Rattle.semantics.specs.Table.{pad, contents, bodies, cat, sections}
 use Rattle.semantics.specs.Bodies.{length-bodies, bodies-append}
 use Rattle.semantics.specs.Sections.{Run, store}
 use Rattle.semantics.specs.Laid.{sizes, Sized, Laid, sizes-of, count-is}
-use Rattle.sgroup.specs.Gaps.{opened, closed}
-use Rattle.sgroup.specs.Moves.{opened-pad, closed-pad, stored-pad}
+use Rattle.sgroup.specs.Shifted.{stored-pad}
 use Rattle.sgroup.specs.Grouped.{fresh, manned}
 
 -- the members of s_groups
-abbrev mems : List Group → List ℕ
+abbrev pub mems : List Group → List ℕ
 mems gs = map (λ g. g .members) gs
 
-length-mems : (gs : List Group) → length (mems gs) ≡ length gs
+pub length-mems : (gs : List Group) → length (mems gs) ≡ length gs
 length-mems gs = length-map {A = Group} {B = ℕ} gs (λ g. g .members)
 
-mems-append : (a b : List Group) → mems (a ++ b) ≡ mems a ++ mems b
+pub mems-append : (a b : List Group) → mems (a ++ b) ≡ mems a ++ mems b
 mems-append a b = map-append (λ g. g .members) a b
 
 -- no names are zeros
@@ -56,36 +55,16 @@ module _ {st : State} {t : List ℕ} (l : Laid names-per-group st t) (a b : List
     many = omega (arith, count-is l, ap length is, length-append a b)
 
     pub inserted : (u : List ℕ)
-        → Run (sizes names-per-group) ((st .size ∷ st .hidden ∷ (getD t 2 0 + 1) ∷ 0 ∷ []) ∷ opened at (getD t 2 0) 1 s (pad group-limit (map contents (st .groups)))
-        ∷ opened at (getD t 2 0) 1 m (pad group-limit (mems (st .groups))) ∷ st .links ∷ st .free
-        ∷ opened (names-per-group * at) (names-per-group * getD t 2 0) names-per-group 0 (pad (group-limit * names-per-group) (bodies names-per-group (st .groups))) ∷ []) u
+        → Run (sizes names-per-group) ((st .size ∷ st .hidden ∷ (getD t 2 0 + 1) ∷ 0 ∷ []) ∷ pad group-limit (map contents a ++ s ∷ map contents b)
+        ∷ pad group-limit (mems a ++ m ∷ mems b) ∷ st .links ∷ st .free
+        ∷ pad (group-limit * names-per-group) (bodies names-per-group a ++ (replicate names-per-group 0 ++ bodies names-per-group b)) ∷ []) u
         → Laid names-per-group (with-groups (a ++ fresh s m ∷ b) st) u
     inserted u r =
         relaid l (a ++ fresh s m ∷ b) (omega (arith, length-append a (fresh s m ∷ b), many)) u _ _ _ _ r
         (omega (arith, length-append a (fresh s m ∷ b), many))
-        (rw (
-          is,
-          map-append contents a b,
-          opened-pad at (getD t 2 0) 1 group-limit (map contents a) (map contents b) (length-map a contents ∙ stands) s
-              (omega (arith, many, length-map b contents)) (omega arith),
-          map-append contents a (fresh s m ∷ b),
-          add-zero s,
-        ))
-        (rw (
-          is,
-          mems-append a b,
-          opened-pad at (getD t 2 0) 1 group-limit (mems a) (mems b) (length-mems a ∙ stands) m
-              (omega (arith, many, length-mems b)) (omega arith),
-          mems-append a (fresh s m ∷ b),
-        ))
-        (rw (
-          is,
-          bodies-append names-per-group a b,
-          opened-pad (names-per-group * at) (names-per-group * getD t 2 0) names-per-group (group-limit * names-per-group)
-              (bodies names-per-group a) (bodies names-per-group b) (omega (arith, length-bodies names-per-group a)) 0 (omega (arith, many, length-bodies names-per-group b)) (omega arith),
-          bodies-append names-per-group a (fresh s m ∷ b),
-          words-none names-per-group,
-        ))
+        (rw (map-append contents a (fresh s m ∷ b), add-zero s))
+        (rw (mems-append a (fresh s m ∷ b)))
+        (rw (bodies-append names-per-group a (fresh s m ∷ b), words-none names-per-group))
 
   module _ (g : Group) (is : st .groups ≡ a ++ g ∷ b) where
     many-out : at + 1 + length b ≡ getD t 2 0
@@ -95,21 +74,15 @@ module _ {st : State} {t : List ℕ} (l : Laid names-per-group st t) (a b : List
     few = omega (arith, count-is l, l .sized .groups-few)
 
     pub deleted : (u : List ℕ)
-        → Run (sizes names-per-group) ((st .size ∷ st .hidden ∷ (getD t 2 0 - 1) ∷ 0 ∷ []) ∷ closed at (getD t 2 0) 1 (pad group-limit (map contents (st .groups)))
-        ∷ closed at (getD t 2 0) 1 (pad group-limit (mems (st .groups))) ∷ st .links ∷ st .free
-        ∷ closed (names-per-group * at) (names-per-group * getD t 2 0) names-per-group (pad (group-limit * names-per-group) (bodies names-per-group (st .groups))) ∷ []) u
+        → Run (sizes names-per-group) ((st .size ∷ st .hidden ∷ (getD t 2 0 - 1) ∷ 0 ∷ []) ∷ pad group-limit (map contents a ++ map contents b)
+        ∷ pad group-limit (mems a ++ mems b) ∷ st .links ∷ st .free ∷ pad (group-limit * names-per-group) (bodies names-per-group a ++ bodies names-per-group b) ∷ []) u
         → Laid names-per-group (with-groups (a ++ b) st) u
     deleted u r =
         relaid l (a ++ b) (omega (arith, length-append a b, many-out, few)) u _ _ _ _ r
         (omega (arith, length-append a b, many-out))
-        (rw (is, map-append contents a (g ∷ b)) (closed-pad at (getD t 2 0) 1 group-limit (map contents a) (map contents b) (length-map a contents ∙ stands) (contents g ∷ []) refl
-        (omega (arith, many-out, length-map b contents)) few ∙ ap (pad group-limit) (sym (map-append contents a b))))
-        (rw (is, mems-append a (g ∷ b)) (closed-pad at (getD t 2 0) 1 group-limit (mems a) (mems b) (length-mems a ∙ stands)
-        (g .members ∷ []) refl (omega (arith, many-out, length-mems b)) few ∙ ap (pad group-limit) (sym (mems-append a b))))
-        (rw (is, bodies-append names-per-group a (g ∷ b)) (closed-pad (names-per-group * at) (names-per-group * getD t 2 0) names-per-group (group-limit * names-per-group)
-        (bodies names-per-group a) (bodies names-per-group b) (omega (arith, length-bodies names-per-group a))
-        (words names-per-group (g .names)) (length-words names-per-group (g .names)) (omega (arith, many-out, length-bodies names-per-group b)) (omega (arith, few))
-        ∙ ap (pad (group-limit * names-per-group)) (sym (bodies-append names-per-group a b))))
+        (rw (map-append contents a b))
+        (rw (mems-append a b))
+        (rw (bodies-append names-per-group a b))
 
     -- the word of its members stored
     pub remanned : (m : ℕ) → Laid names-per-group (with-groups (a ++ manned m g ∷ b) st) (set t (members-at + at) m)

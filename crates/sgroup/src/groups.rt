@@ -2,10 +2,8 @@
 use table::BODIES_AT;
 use table::CONTENTS_AT;
 use table::COUNT_AT;
-use table::LINKS_AT;
 use table::MEMBERS_AT;
 use table::NAMES_PER_GROUP;
-use table::TABLE_WORDS;
 ghost use mathlib.Core.Path.{_≡_};
 ghost use mathlib.Core.List.{List, _∷_, _++_};
 ghost use Prim.Native.Nat.{_≤_, _<_};
@@ -14,8 +12,8 @@ ghost use Rattle.semantics.specs.Sizes.{group-limit, names-per-group, table-wor
 ghost use Rattle.semantics.specs.State.{Group, State, with-groups};
 ghost use Rattle.semantics.specs.Laid.{Laid};
 ghost use Rattle.sgroup.specs.Grouped.{fresh, manned};
-use super::gaps::close_gap;
-use super::gaps::open_gap;
+use super::bodies::drop_body;
+use super::bodies::put_body;
 
 // A new s_group of no names goes in at the place: the s_groups from there on move up.
 pub fn insert_group(t: &mut [u64], at: usize, s: u32, set: u64)
@@ -25,15 +23,11 @@ pub fn insert_group(t: &mut [u64], at: usize, s: u32, set: u64)
     ensures { λ _. ⌜ ((st : State) → Laid names-per-group st (now (t .entry)) → (a b : List Group) → st .groups ≡ a ++ b → length a ≡ at → Laid names-per-group (with-groups (a ++ fresh s set ∷ b) st) (now (t .exit))) ⌝ }
 {
     let count = t[COUNT_AT] as usize;
-    open_gap(&mut t[CONTENTS_AT..MEMBERS_AT], at, count, 1, s as u64);
-    open_gap(&mut t[MEMBERS_AT..LINKS_AT], at, count, 1, set);
-    open_gap(
-        &mut t[BODIES_AT..TABLE_WORDS],
-        NAMES_PER_GROUP * at,
-        NAMES_PER_GROUP * count,
-        NAMES_PER_GROUP,
-        0,
-    );
+    moves::put_first(&mut t[CONTENTS_AT + at..CONTENTS_AT + count + 1], s as u64);
+    moves::put_first(&mut t[MEMBERS_AT + at..MEMBERS_AT + count + 1], set);
+    let start = BODIES_AT + NAMES_PER_GROUP * at;
+    let end = BODIES_AT + NAMES_PER_GROUP * (count + 1);
+    put_body(&mut t[start..end]);
     t[COUNT_AT] = (count + 1) as u64;
 }
 
@@ -45,14 +39,11 @@ pub fn delete_group(t: &mut [u64], at: usize)
     ensures { λ _. ⌜ ((st : State) → Laid names-per-group st (now (t .entry)) → (a b : List Group) (g : Group) → st .groups ≡ a ++ g ∷ b → length a ≡ at → Laid names-per-group (with-groups (a ++ b) st) (now (t .exit))) ⌝ }
 {
     let count = t[COUNT_AT] as usize;
-    close_gap(&mut t[CONTENTS_AT..MEMBERS_AT], at, count, 1);
-    close_gap(&mut t[MEMBERS_AT..LINKS_AT], at, count, 1);
-    close_gap(
-        &mut t[BODIES_AT..TABLE_WORDS],
-        NAMES_PER_GROUP * at,
-        NAMES_PER_GROUP * count,
-        NAMES_PER_GROUP,
-    );
+    moves::drop_first(&mut t[CONTENTS_AT + at..CONTENTS_AT + count]);
+    moves::drop_first(&mut t[MEMBERS_AT + at..MEMBERS_AT + count]);
+    let start = BODIES_AT + NAMES_PER_GROUP * at;
+    let end = BODIES_AT + NAMES_PER_GROUP * count;
+    drop_body(&mut t[start..end]);
     t[COUNT_AT] = (count - 1) as u64;
 }
 

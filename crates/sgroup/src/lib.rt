@@ -10,7 +10,7 @@ ghost use Rattle.semantics.specs.Call.{call, listed-over};
 ghost use Rattle.semantics.specs.Calls.{why};
 ghost use Rattle.semantics.specs.declared.Value.the-variants.{Error};
 
-mod gaps;
+mod bodies;
 mod grouping;
 mod groups;
 mod judge;

@@ -4,7 +4,8 @@ use std::hint::black_box;
 use std::time::Instant;
 
 /// The best time of each of the turns of each side, in nanoseconds, summed up over the turns. Each is timed
-/// so many rounds; `ready` comes before each turn and is not timed.
+/// so many rounds; `ready` comes before each turn and is not timed. Every other round goes through the sides
+/// backwards: who comes second finds the branch predictor told of the turn's data by who came first.
 pub fn race<const SIDES: usize>(
     rounds: usize,
     turns: usize,
@@ -12,13 +13,14 @@ pub fn race<const SIDES: usize>(
     mut turn: impl FnMut(usize, usize) -> u64,
 ) -> [f64; SIDES] {
     let mut best = vec![[u64::MAX; SIDES]; turns];
-    for _ in 0..rounds {
+    for round in 0..rounds {
         for (k, best) in best.iter_mut().enumerate() {
-            for (side, best) in best.iter_mut().enumerate() {
+            for step in 0..SIDES {
+                let side = if round % 2 == 0 { step } else { SIDES - 1 - step };
                 ready(side);
                 let start = Instant::now();
                 black_box(turn(side, k));
-                *best = (*best).min(start.elapsed().as_nanos() as u64);
+                best[side] = best[side].min(start.elapsed().as_nanos() as u64);
             }
         }
     }

@@ -30,7 +30,7 @@ use Rattle.semantics.specs.Fits.{Fits}
 use Rattle.semantics.specs.Changed.{regular-found}
 use Rattle.published.specs.Published.{of-some, any, SGroup, Namespace, gives, has-pid, transition}
 use Rattle.published.specs.Seen.{seen, published, said, count}
-use Rattle.published.specs.Refusals.{Test, _when_, first, off-roster, strays, names-in, full, too-long, tests-set, tests-at, tests, ruled, refusal}
+use Rattle.published.specs.Refusals.{Test, _when_, first, off-roster, strays, names-in, full, run-short, tests-set, tests-at, tests, ruled, refusal}
 use Rattle.published.specs.Any.{any-beyond}
 use Rattle.published.specs.Look.{on-some, member, groups-seen, roster-seen, count-groups}
 use Rattle.published.specs.NamesSeen.{pid-seen, count-names, words-seen}
@@ -132,7 +132,7 @@ module _ {cap : ℕ} (st : State) (w : Regular cap st) (s : ℕ) (g : Group) (f 
       ∙ ap (leb names-per-group) (count-names (g .names) names-up)
 
   list-test : (room i : ℕ) → s < group-names → has (g .members) i ≡ true
-      → too-long room (transition (within (registered-names s)) i (published st)) ≡ ltb room (length (W.name-words s (g .names)))
+      → run-short room (transition (within (registered-names s)) i (published st)) ≡ ltb room (length (W.name-words s (g .names)))
   unfolding published transition
   list-test room i small m = rw (f, m) (ap (λ (l : List ℕ). ltb room (length l)) (words-seen s small (g .names) names-up))
 

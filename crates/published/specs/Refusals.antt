@@ -44,8 +44,8 @@ abbrev pub full : ℕ → Published → Bool
 full s X = leb names-per-group (count half-word (λ n. held (names-in s X n)))
 
 -- the run for a list has fewer words than the list that 000's rule gives
-abbrev pub too-long : ℕ → Step → Bool
-too-long room q = ltb room (length (said (q .value) .1))
+abbrev pub run-short : ℕ → Step → Bool
+run-short room q = ltb room (length (said (q .value) .1))
 
 -- ---- which reason holds
 
@@ -97,7 +97,7 @@ tests room (within (unregister-name s n)) ni X = tests-name s n ni X
 tests room (within (whereis-name s n)) ni X = tests-name s n ni X
 tests room (within (registered-names s)) ni X =
     CallerUnknown when off-roster ni X ∷ GroupNameRange when bad-group s ∷ GroupUnknown when unknown s X ∷ NotMember when outsider ni s X
-    ∷ RunShort when too-long room (transition (within (registered-names s)) ni X) ∷ []
+    ∷ RunShort when run-short room (transition (within (registered-names s)) ni X) ∷ []
 tests room (within (add-nodes s set)) ni X = tests-set s set ni X
 tests room (within (new-s-group s set)) ni X =
     CallerUnknown when off-roster ni X ∷ GroupNameRange when bad-group s ∷ NodeUnknown when strays (has set) X
@@ -111,7 +111,7 @@ tests room (remove-nodes s set) ni X = tests-set s set ni X
 tests room (delete-s-group s) ni X =
     CallerUnknown when off-roster ni X ∷ GroupNameRange when bad-group s ∷ GroupUnknown when unknown s X ∷ NotMember when outsider ni s X ∷ []
 tests room own-nodes ni X = CallerUnknown when off-roster ni X ∷ []
-tests room own-s-groups ni X = CallerUnknown when off-roster ni X ∷ RunShort when too-long room (transition own-s-groups ni X) ∷ []
+tests room own-s-groups ni X = CallerUnknown when off-roster ni X ∷ RunShort when run-short room (transition own-s-groups ni X) ∷ []
 
 -- opening N nodes, those of nis hidden, in a run of that many words
 abbrev pub opening-tests : ℕ → ℕ → Set → List Test

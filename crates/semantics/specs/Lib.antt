@@ -46,6 +46,7 @@ pub mod Padding
 pub mod Parts
 pub mod Places
 pub mod ReadOff
+pub mod Refused
 pub mod Scripts
 pub mod Sections
 pub mod StateTest

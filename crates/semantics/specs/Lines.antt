@@ -1,4 +1,4 @@
--- Script lines of the seven commands that name one s_group: what each makes of a state or a table, and what its caller hears.
+-- Script lines of the seven commands that change one s_group at most and free no node: what each makes of a state or a table, and what its caller hears.
 -- Definitions only. Assumes nothing.
 use mathlib.Core.Logic.{_≢_}
 use mathlib.Core.Bool.{cond}

@@ -32,7 +32,7 @@ unfoldable pub calls : List ℕ → List Line → List Call
 calls t [] = []
 calls t (l ∷ ls) = let r : Call = call 64 (l .caller) (l .command) t in r ∷ calls (r .table) ls
 
--- M1 opens a table with any words; M2 to M13 follow
+-- M1 opens the table t; M2 to M13 follow
 unfoldable pub run : ℕ → ℕ → List ℕ → List Line → List Call
 run N hidden t ls = let r : Call = opening N hidden t in r ∷ calls (r .table) ls
 

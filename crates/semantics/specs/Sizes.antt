@@ -1,5 +1,6 @@
 -- How large everything is, and where each part of the table begins. Nothing else spells these numbers. Assumes nothing.
 -- A roster has at most `node-limit` nodes, as many as a word has digits.
+use mathlib.Core.Path.{_≡_, refl}
 use Prim.Native.Nat.{ℕ, _+_, _*_}
 use Rattle.nodes.specs.Sets.{node-limit}
 
@@ -42,3 +43,7 @@ bodies-at = free-at + node-limit
 -- how many words a table has, with cap names an s_group
 abbrev pub table-words : ℕ → ℕ
 table-words cap = bodies-at + group-limit * cap
+
+-- these are 01's figures
+pub figures : (contents-at ≡ 4) × (members-at ≡ 36) × (links-at ≡ 68) × (free-at ≡ 132) × (bodies-at ≡ 196) × (table-words names-per-group ≡ 1220)
+figures = (refl, refl, refl, refl, refl, refl)

@@ -98,7 +98,7 @@ reply v r st = record { answer = answer-of v r; list = []; next = st }
 abbrev pub error : Reason → State → Result
 error r st = reply Error r st
 
--- ---- the seven commands that name one s_group and change no other. All but new_s_group feel that s_group alone; it feels how many there are
+-- ---- the seven commands that change one s_group at most and free no node. All but new_s_group feel that s_group alone; it feels how many there are
 
 pub data GroupCommand : Type 0 where
   register-name re-register-name : ℕ → ℕ → ℕ → GroupCommand  -- s n p

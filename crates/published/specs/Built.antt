@@ -16,7 +16,7 @@ use Rattle.namespace.specs.Soundness as Namespace
 use Rattle.namespace.specs.Soundness.{Ascending, Distinct, Hosted}
 use Rattle.semantics.specs.Sizes.{names-per-group, group-names}
 use Rattle.semantics.specs.State.{Group, State, find, all-members}
-use Rattle.semantics.specs.Steps.{held}
+use Rattle.semantics.specs.Commands.{held}
 use Rattle.semantics.specs.Table.{layout}
 use Rattle.semantics.specs.Soundness.{Sound}
 use Rattle.semantics.specs.Regular.{Every, Rising, Regular-group, Met, Regular, loose}
@@ -25,13 +25,12 @@ use Rattle.semantics.specs.Loose.{has-free-nodes}
 use Rattle.semantics.specs.Trip.{round-trip}
 use Rattle.semantics.specs.Agree.{regular-test, sound-iff}
 use Rattle.published.specs.Published.{Set, of-some, SGroup, Namespace, Node, Published, those, IsSGroupNode}
-use Rattle.published.specs.Seen.{seen, names-seen, published, word, runs}
+use Rattle.published.specs.Seen.{seen, names-seen, published, word, runs, seen-table}
 use Rattle.published.specs.WellFormed.{connected, free, Fair-namespace, WellFormed}
 use Rattle.published.specs.Any.{any-case}
 use Rattle.published.specs.Runs.{has-word, word-lt, word-has}
 use Rattle.published.specs.Look.{on-some, held-those, groups-seen, nodes-seen, members-seen}
 use Rattle.published.specs.Gather.{gather, gather-ind, length-gather, looked, length-each, at-each}
-use Rattle.published.specs.Determined.{seen-table}
 
 -- ---- the entries of a namespace
 

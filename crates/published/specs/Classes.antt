@@ -6,7 +6,7 @@ use mathlib.Core.Option.{Option, none, some}
 use Prim.Native.Nat.{ℕ}
 use borrow.Author.Tests.{eq-eqb, lt-ltb}
 use Rattle.semantics.specs.Sizes.{group-names}
-use Rattle.semantics.specs.Steps.{Command, held}
+use Rattle.semantics.specs.Commands.{Command, held}
 use Rattle.semantics.specs.Fits.{Fits}
 use Rattle.semantics.specs.Keeps.{keeps}
 use Rattle.published.specs.Published.{of-some, SGroup, Node, Published, those, IsSGroupNode, IsFreeNormalNode, IsFreeHiddenNode}

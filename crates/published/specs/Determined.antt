@@ -23,7 +23,7 @@ use Rattle.semantics.specs.Groups.{found-name}
 use Rattle.semantics.specs.Changed.{regular-found}
 use Rattle.semantics.specs.Agree.{test-regular, same-state-same-table, sound-iff}
 use Rattle.published.specs.Published.{of-some, SGroup, Node, Published, those}
-use Rattle.published.specs.Seen.{seen, published, runs}
+use Rattle.published.specs.Seen.{seen, published, runs, seen-table}
 use Rattle.published.specs.Look.{on-some, groups-seen, node-seen, nothing-there, those-seen, gathered}
 
 module _ {cap : ℕ} (a b : State) (v : Regular cap a) (w : Regular cap b) (e : published a ≡ published b) where
@@ -95,10 +95,7 @@ module _ {cap : ℕ} (a b : State) (v : Regular cap a) (w : Regular cap b) (e : 
   pub state-determined : a ≡ b
   state-determined = λ k. record { size = same-size k; hidden = same-hidden k; groups = same-groups k; links = same-links k; free = same-free k }
 
--- the published state of a table
-abbrev pub seen-table : List ℕ → Published
-seen-table t = published (state-of names-per-group t)
-
+-- sound tables of one published state are equal
 pub table-determined : (t u : List ℕ) → Sound names-per-group t → Sound names-per-group u → seen-table t ≡ seen-table u → t ≡ u
 table-determined t u p q e =
     let a = sound-iff names-per-group t .1 p in

@@ -6,7 +6,8 @@ use mathlib.Core.List.{List}
 use Prim.Native.Nat.{ℕ}
 use Rattle.semantics.specs.Sizes.{names-per-group}
 use Rattle.semantics.specs.State.{State}
-use Rattle.semantics.specs.Steps.{Result, Command, answer-of, step}
+use Rattle.semantics.specs.Commands.{Command, answer-of}
+use Rattle.semantics.specs.Steps.{Result, step}
 use Rattle.semantics.specs.Table.{state-of}
 use Rattle.semantics.specs.Soundness.{Sound}
 use Rattle.semantics.specs.Test.{sound}
@@ -19,12 +20,12 @@ use Rattle.semantics.specs.Agree.{test-regular, sound-iff}
 use Rattle.semantics.specs.Calls.{call-sound, calls-keep-sound}
 use Rattle.semantics.specs.declared.Reason.{Reason}
 use Rattle.published.specs.Published.{Step, gives, transition}
-use Rattle.published.specs.Seen.{published, said}
+use Rattle.published.specs.Seen.{published, said, seen-table}
 use Rattle.published.specs.Refusals.{first, tests, ruled, refusal, Answered, answer}
 use Rattle.published.specs.Follows.{Follows}
 use Rattle.published.specs.Rules.{agree}
 use Rattle.published.specs.Reasons.{Because, because}
-use Rattle.published.specs.Determined.{seen-table, table-determined}
+use Rattle.published.specs.Determined.{table-determined}
 
 -- ---- states
 

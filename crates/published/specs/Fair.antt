@@ -28,13 +28,13 @@ use Rattle.semantics.specs.Names.{host-found}
 use Rattle.semantics.specs.Changed.{regular-found, small-name}
 use Rattle.semantics.specs.Agree.{test-regular, sound-iff}
 use Rattle.published.specs.Published.{SGroup, Namespace, Node, IsSGroupNode}
-use Rattle.published.specs.Seen.{seen, names-seen, published}
+use Rattle.published.specs.Seen.{seen, names-seen, published, seen-table}
 use Rattle.published.specs.WellFormed.{connected, free, Fair-namespace, Fair-group, WellFormed}
 use Rattle.published.specs.Any.{any-has}
 use Rattle.published.specs.Look.{on-some, roster-seen, groups-seen, node-seen, nothing-there, those-seen, count-groups}
 use Rattle.published.specs.NamesSeen.{count-names}
 use Rattle.published.specs.Connecting.{loose-is, connected-seen}
-use Rattle.published.specs.Determined.{seen-table, table-determined}
+use Rattle.published.specs.Determined.{table-determined}
 use Rattle.published.specs.Built.{table-of, table-sound, table-seen}
 
 -- ---- namespaces

@@ -12,7 +12,7 @@ use lib.Dec.{eqb, leb}
 use lib.ListN.{length, getD, List·getD-eq-default}
 use borrow.Author.Tests.{eq-eqb, ne-eqb, le-leb, lt-leb}
 use Rattle.nodes.specs.Bools.{by-lt, by-eq}
-use Rattle.semantics.specs.Steps.{held}
+use Rattle.semantics.specs.Commands.{held}
 use Rattle.published.specs.Published.{Map, of-some}
 use Rattle.published.specs.Seen.{count, runs}
 use Rattle.published.specs.Runs.{length-runs, in-turn, count-runs}

@@ -11,7 +11,8 @@ use Rattle.nodes.specs.Laws.{has-union, union-lt}
 use Rattle.namespace.specs.Entries.{lookup}
 use Rattle.semantics.specs.Sizes.{group-limit, group-names}
 use Rattle.semantics.specs.State.{Group, State, with-groups, with-links, with-free, find, put, add-group}
-use Rattle.semantics.specs.Steps.{Result, Outcome, within, add-nodes, new-s-group, create, apply, done, say, settle, inside, held, interconnect, leave-free}
+use Rattle.semantics.specs.Commands.{within, add-nodes, new-s-group, held}
+use Rattle.semantics.specs.Steps.{Result, Outcome, create, apply, done, say, settle, inside, interconnect, leave-free}
 use Rattle.semantics.specs.declared.Value.the-variants.{Error, Grouped}
 use Rattle.semantics.specs.declared.Reason.the-variants.{NodeUnknown, CallerOutside, GroupTaken, GroupsFull}
 use Rattle.semantics.specs.Regular.{Regular}

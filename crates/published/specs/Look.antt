@@ -15,7 +15,7 @@ use Rattle.nodes.specs.Laws.{has-none, has-union}
 use Rattle.namespace.specs.Entries.{Entry, lookup}
 use Rattle.semantics.specs.Sizes.{group-names}
 use Rattle.semantics.specs.State.{Group, find, become, put, add-group, drop-group, all-members}
-use Rattle.semantics.specs.Steps.{held}
+use Rattle.semantics.specs.Commands.{held}
 use Rattle.semantics.specs.Regular.{Every, Rising, Regular-group}
 use Rattle.semantics.specs.Truth.{or-cases}
 use Rattle.semantics.specs.Groups.{found-name}

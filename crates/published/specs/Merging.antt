@@ -9,7 +9,7 @@ use native.Mathlib.Omega.{arith}
 use Rattle.nodes.specs.Sets.{node-limit}
 use Rattle.nodes.specs.Bools.{by-lt}
 use Rattle.semantics.specs.Sizes.{group-names}
-use Rattle.semantics.specs.Steps.{held}
+use Rattle.semantics.specs.Commands.{held}
 use Rattle.semantics.specs.Truth.{unless}
 use Rattle.published.specs.Published.{Set, Map, of-some, _∪_, nobody, any, GrNames, NoGroup, Names, Node, FreeGroups, Published, those, with-gr-names, with-free, InterConnectNodes, Joined, left-none, NewlyFree, FindFreeNormalGroups, MergeFreeNormalGroups, AddFreeNormalGroup, NewFreeNodes}
 use Rattle.published.specs.Any.{any-case, any-none, any-no}

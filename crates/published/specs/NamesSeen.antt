@@ -14,7 +14,8 @@ use Rattle.namespace.specs.Entries.{Entry, half-word, insert, remove, lookup, h
 use Rattle.namespace.specs.Soundness.{Ascending}
 use Rattle.namespace.specs.Laws.{lookup-insert-same, lookup-insert-other, lookup-remove-same, lookup-remove-other, holds-pid-lookup}
 use Rattle.semantics.specs.Sizes.{group-names}
-use Rattle.semantics.specs.Steps.{held, name-words}
+use Rattle.semantics.specs.Commands.{held}
+use Rattle.semantics.specs.Steps.{name-words}
 use Rattle.semantics.specs.Truth.{or-cases}
 use Rattle.published.specs.Published.{of-some, with-at, less-at, has-pid, OutputNs}
 use Rattle.published.specs.Seen as Seen

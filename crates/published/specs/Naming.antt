@@ -14,7 +14,8 @@ use Rattle.namespace.specs.Laws.{lookup-remove-same}
 use Rattle.semantics.specs.Sizes.{group-names}
 use Rattle.semantics.specs.State.{Group, State, find, put}
 use Rattle.semantics.specs.Steps as W
-use Rattle.semantics.specs.Steps.{Result, Outcome, within, register-name, re-register-name, unregister-name, whereis-name, registered-names, hold, apply, done, say, settle, inside, held, full, look-reason, name-words, listed}
+use Rattle.semantics.specs.Commands.{within, register-name, re-register-name, unregister-name, whereis-name, registered-names, held}
+use Rattle.semantics.specs.Steps.{Result, Outcome, hold, apply, done, say, settle, inside, full, look-reason, name-words, listed}
 use Rattle.semantics.specs.declared.Value.the-variants.{True, False, Error, Undefined, Listed}
 use Rattle.semantics.specs.declared.Reason.the-variants.{Done, NameZero, NodeUnknown, NotMember, NameTaken, PidTaken, NotRegistered, NamespaceFull, RunShort}
 use Rattle.semantics.specs.Regular.{Regular}

@@ -13,7 +13,8 @@ use Rattle.nodes.specs.Laws.{has-none, has-single}
 use Rattle.semantics.specs.Answers.{number}
 use Rattle.semantics.specs.Sizes.{names-per-group, group-names, table-words}
 use Rattle.semantics.specs.State.{find}
-use Rattle.semantics.specs.Steps.{answer-of, opened}
+use Rattle.semantics.specs.Commands.{answer-of}
+use Rattle.semantics.specs.Steps.{opened}
 use Rattle.semantics.specs.Table.{layout}
 use Rattle.semantics.specs.Soundness.{Sound}
 use Rattle.semantics.specs.Call.{Call, refused, opening}
@@ -27,10 +28,9 @@ use Rattle.semantics.specs.declared.Value.the-variants.{Ok, Error}
 use Rattle.semantics.specs.declared.Reason.{Reason}
 use Rattle.semantics.specs.declared.Reason.the-variants.{Done, TableLength, RosterSize, NodeUnknown}
 use Rattle.published.specs.Published.{Set, any, only, nobody, NoGroup, Names, Opening}
-use Rattle.published.specs.Seen.{published}
+use Rattle.published.specs.Seen.{published, seen-table}
 use Rattle.published.specs.Refusals.{first, opening-tests}
 use Rattle.published.specs.Any.{any-no, any-beyond}
-use Rattle.published.specs.Determined.{seen-table}
 
 zeros : (n i : ℕ) → _≡_ {A = ℕ} (getD (replicate n 0) i 0) 0
 zeros zero i = refl

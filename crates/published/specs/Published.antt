@@ -8,7 +8,7 @@ use lib.Dec.{eqb, ltb}
 use Rattle.nodes.specs.Sets.{node-limit, has}
 use Rattle.namespace.specs.Entries.{half-word, host}
 use Rattle.semantics.specs.Sizes.{group-names}
-use Rattle.semantics.specs.Steps.{held, Command, within, register-name, re-register-name, unregister-name, whereis-name, registered-names, add-nodes, new-s-group, whereis-name-at, send-at, send, send-name, remove-nodes, delete-s-group, own-nodes, own-s-groups}
+use Rattle.semantics.specs.Commands.{held, Command, within, register-name, re-register-name, unregister-name, whereis-name, registered-names, add-nodes, new-s-group, whereis-name-at, send-at, send, send-name, remove-nodes, delete-s-group, own-nodes, own-s-groups}
 
 -- ---- sets and maps
 

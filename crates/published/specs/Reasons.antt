@@ -17,8 +17,9 @@ use Rattle.namespace.specs.Soundness.{Ascending}
 use Rattle.semantics.specs.Sizes.{group-limit, names-per-group, group-names}
 use Rattle.semantics.specs.State.{Group, State, find}
 use Rattle.semantics.specs.Steps as W
-use Rattle.semantics.specs.Steps.{Result, Outcome, Effect, error, say, done, settle, told, held, bad-group, inside, outcome, group-step, apply, for-member, tell, ask, look-in, look-reason, own-list, rule, step}
-use Rattle.semantics.specs.Steps.{Command, GroupCommand, within, register-name, re-register-name, unregister-name, whereis-name, registered-names, add-nodes, new-s-group, whereis-name-at, send-at, send, send-name, remove-nodes, delete-s-group, own-nodes, own-s-groups}
+use Rattle.semantics.specs.Commands.{held, bad-group}
+use Rattle.semantics.specs.Steps.{Result, Outcome, Effect, error, say, done, settle, told, inside, outcome, group-step, apply, for-member, tell, ask, look-in, look-reason, own-list, rule, step}
+use Rattle.semantics.specs.Commands.{Command, GroupCommand, within, register-name, re-register-name, unregister-name, whereis-name, registered-names, add-nodes, new-s-group, whereis-name-at, send-at, send, send-name, remove-nodes, delete-s-group, own-nodes, own-s-groups}
 use Rattle.semantics.specs.declared.Value.{Value}
 use Rattle.semantics.specs.declared.Value.the-variants.{True, False, Error, Undefined, Listed}
 use Rattle.semantics.specs.declared.Reason.{Reason}

@@ -10,7 +10,7 @@ use Rattle.nodes.specs.Sets.{node-limit, has}
 use Rattle.namespace.specs.Entries.{half-word, host}
 use Rattle.semantics.specs.Answers.{number}
 use Rattle.semantics.specs.Sizes.{group-limit, names-per-group, group-names, table-words}
-use Rattle.semantics.specs.Steps.{held, bad-group, answer-of, Command, within, register-name, re-register-name, unregister-name, whereis-name, registered-names, add-nodes, new-s-group, whereis-name-at, send-at, send, send-name, remove-nodes, delete-s-group, own-nodes, own-s-groups}
+use Rattle.semantics.specs.Commands.{held, bad-group, answer-of, Command, within, register-name, re-register-name, unregister-name, whereis-name, registered-names, add-nodes, new-s-group, whereis-name-at, send-at, send, send-name, remove-nodes, delete-s-group, own-nodes, own-s-groups}
 use Rattle.semantics.specs.declared.Answer.{Answer}
 use Rattle.semantics.specs.declared.Reason.{Reason}
 use Rattle.semantics.specs.declared.Reason.the-variants.{Done, TableLength, RosterSize, CallerUnknown, GroupNameRange, NameZero, NodeUnknown, GroupUnknown, NotMember, NameTaken, PidTaken, NotRegistered, NamespaceFull, CallerOutside, GroupTaken, GroupsFull, RunShort}

@@ -12,8 +12,9 @@ use Rattle.namespace.specs.Entries.{host, lookup}
 use Rattle.semantics.specs.Sizes.{group-names}
 use Rattle.semantics.specs.State.{Group, State, find}
 use Rattle.semantics.specs.Steps as W
-use Rattle.semantics.specs.Steps.{Result, reply, error, say, settle, told, bad-group, target, inside, outcome, group-step, ask, send-on, tell, own-list, connect, rule, step}
-use Rattle.semantics.specs.Steps.{Command, GroupCommand, within, register-name, re-register-name, unregister-name, whereis-name, registered-names, add-nodes, new-s-group, whereis-name-at, send-at, send, send-name, remove-nodes, delete-s-group, own-nodes, own-s-groups}
+use Rattle.semantics.specs.Commands.{bad-group}
+use Rattle.semantics.specs.Steps.{Result, reply, error, say, settle, told, target, inside, outcome, group-step, ask, send-on, tell, own-list, connect, rule, step}
+use Rattle.semantics.specs.Commands.{Command, GroupCommand, within, register-name, re-register-name, unregister-name, whereis-name, registered-names, add-nodes, new-s-group, whereis-name-at, send-at, send, send-name, remove-nodes, delete-s-group, own-nodes, own-s-groups}
 use Rattle.semantics.specs.declared.Value.the-variants.{Error}
 use Rattle.semantics.specs.declared.Reason.{Reason}
 use Rattle.semantics.specs.declared.Reason.the-variants.{CallerUnknown, GroupNameRange, NameZero, NodeUnknown, NotMember, NotRegistered, RunShort}

@@ -8,8 +8,9 @@ use lib.Dec.{ltb}
 use lib.ListN.{length}
 use Rattle.nodes.specs.Sets.{node-limit, has, single, union, word-at}
 use Rattle.namespace.specs.Entries.{half-word, lookup}
-use Rattle.semantics.specs.Sizes.{group-names}
+use Rattle.semantics.specs.Sizes.{group-names, names-per-group}
 use Rattle.semantics.specs.State.{Group, State, free-of, find}
+use Rattle.semantics.specs.Table.{state-of}
 use Rattle.semantics.specs.declared.Value.{Value}
 use Rattle.semantics.specs.declared.Value.the-variants.{Grouped, Nodes, Listed}
 use Rattle.semantics.specs.declared.Value.the-variants as W
@@ -39,6 +40,10 @@ published st =
           (some (record { hidden = has (st .hidden) ni; connections = has (word-at (st .links) ni); gr-names = names-seen ni grs }))
           none;
     }
+
+-- the published state of a table
+abbrev pub seen-table : List ℕ → Published
+seen-table t = published (state-of names-per-group t)
 
 -- ---- values
 

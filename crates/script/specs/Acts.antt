@@ -6,7 +6,7 @@ use Prim.Native.Nat.{ℕ, _≤_}
 use native.Mathlib.Omega.{arith}
 use lib.ListN.{length, take, drop, length-append}
 use lib.Seq.{take-at}
-use Rattle.semantics.specs.Steps.{Command}
+use Rattle.semantics.specs.Commands.{Command}
 use Rattle.semantics.specs.Call.{Call, call, listed-over}
 use Rattle.semantics.specs.declared.Answer.{Answer}
 use Rattle.line.specs.Commands.{command-of}

@@ -12,8 +12,9 @@ use Rattle.nodes.specs.Sets.{node-limit, has, beyond, count}
 use Rattle.namespace.specs.Entries.{host, lookup, holds-pid}
 use Rattle.semantics.specs.Sizes.{group-limit, names-per-group, group-names, table-words}
 use Rattle.semantics.specs.State.{Group, State, find}
-use Rattle.semantics.specs.Steps.{Command, GroupCommand, within, register-name, re-register-name, unregister-name, registered-names, whereis-name, new-s-group, add-nodes, whereis-name-at, send, send-name, send-at, remove-nodes, delete-s-group, own-nodes, own-s-groups}
-use Rattle.semantics.specs.Steps.{Outcome, Effect, keep, answer-of, done, say, listed, bad-group, as-member, held, pid-or-undefined, full, name-words, inside, outcome, target, group-step}
+use Rattle.semantics.specs.Commands.{Command, GroupCommand, within, register-name, re-register-name, unregister-name, registered-names, whereis-name, new-s-group, add-nodes, whereis-name-at, send, send-name, send-at, remove-nodes, delete-s-group, own-nodes, own-s-groups}
+use Rattle.semantics.specs.Commands.{answer-of, bad-group, held}
+use Rattle.semantics.specs.Steps.{Outcome, Effect, keep, done, say, listed, as-member, pid-or-undefined, full, name-words, inside, outcome, target, group-step}
 use Rattle.semantics.specs.Steps.{Result, reply, ask, tell, asking, for-member, own-set, own-list, rule, step}
 use Rattle.semantics.specs.Table.{state-of}
 use Rattle.semantics.specs.Test.{sound}

@@ -10,8 +10,9 @@ use lib.ListN.{length}
 use Rattle.nodes.specs.Sets.{has}
 use Rattle.semantics.specs.Sizes.{names-per-group, table-words}
 use Rattle.semantics.specs.State.{Group, State, find}
-use Rattle.semantics.specs.Steps.{Command, GroupCommand, within, register-name, re-register-name, unregister-name, registered-names, whereis-name, new-s-group, add-nodes, whereis-name-at, send, send-name, send-at, remove-nodes, delete-s-group, own-nodes, own-s-groups}
-use Rattle.semantics.specs.Steps.{Outcome, Effect, keep, error, listed, bad-group, as-member, name-words, inside, outcome, apply, target, group-step, rule, step}
+use Rattle.semantics.specs.Commands.{Command, GroupCommand, within, register-name, re-register-name, unregister-name, registered-names, whereis-name, new-s-group, add-nodes, whereis-name-at, send, send-name, send-at, remove-nodes, delete-s-group, own-nodes, own-s-groups}
+use Rattle.semantics.specs.Commands.{bad-group}
+use Rattle.semantics.specs.Steps.{Outcome, Effect, keep, error, listed, as-member, name-words, inside, outcome, apply, target, group-step, rule, step}
 use Rattle.semantics.specs.Table.{layout, state-of}
 use Rattle.semantics.specs.Test.{sound}
 use Rattle.semantics.specs.Agree.{test-regular}

@@ -6,7 +6,8 @@ use lib.Dec.{eqb, ltb}
 use lib.ListN.{length, drop}
 use Rattle.nodes.specs.Sets.{node-limit, beyond}
 use Rattle.semantics.specs.Sizes.{names-per-group, table-words}
-use Rattle.semantics.specs.Steps.{Result, Command, answer-of, step, opened}
+use Rattle.semantics.specs.Commands.{Command, answer-of}
+use Rattle.semantics.specs.Steps.{Result, step, opened}
 use Rattle.semantics.specs.Table.{layout, state-of}
 use Rattle.semantics.specs.Test.{sound}
 use Rattle.semantics.specs.declared.Answer.{Answer}

@@ -14,7 +14,8 @@ use Rattle.nodes.specs.Bools.{by-test}
 use Rattle.semantics.specs.Answers.{kind}
 use Rattle.semantics.specs.Sizes.{names-per-group, table-words}
 use Rattle.semantics.specs.State.{State}
-use Rattle.semantics.specs.Steps.{Command, answer-of, step, opened}
+use Rattle.semantics.specs.Commands.{Command, answer-of}
+use Rattle.semantics.specs.Steps.{step, opened}
 use Rattle.semantics.specs.Table.{layout, state-of}
 use Rattle.semantics.specs.Soundness.{Sound}
 use Rattle.semantics.specs.Test.{sound}

@@ -9,7 +9,8 @@ use lib.ListN.{length}
 use Rattle.nodes.specs.Bools.{by-test}
 use Rattle.semantics.specs.Sizes.{group-limit, names-per-group}
 use Rattle.semantics.specs.State.{State}
-use Rattle.semantics.specs.Steps.{creates, within, answer-of}
+use Rattle.semantics.specs.Commands.{within, answer-of}
+use Rattle.semantics.specs.Steps.{creates}
 use Rattle.semantics.specs.Table.{sections, layout, state-of}
 use Rattle.semantics.specs.Soundness.{Sound, size-of, count-of}
 use Rattle.semantics.specs.Test.{sound}

@@ -10,7 +10,8 @@ use Rattle.nodes.specs.Sets.{node-limit}
 use Rattle.namespace.specs.Entries.{Entry}
 use Rattle.semantics.specs.Sizes.{group-limit, names-per-group, group-names, table-words}
 use Rattle.semantics.specs.State.{Group}
-use Rattle.semantics.specs.Steps.{Command, register-name, re-register-name, whereis-name, registered-names, new-s-group, within, whereis-name-at, remove-nodes, delete-s-group, own-nodes, own-s-groups, answer-of, name-words}
+use Rattle.semantics.specs.Commands.{Command, register-name, re-register-name, whereis-name, registered-names, new-s-group, within, whereis-name-at, remove-nodes, delete-s-group, own-nodes, own-s-groups, answer-of}
+use Rattle.semantics.specs.Steps.{name-words}
 use Rattle.semantics.specs.Table.{pad, layout}
 use Rattle.semantics.specs.Test.{sound}
 use Rattle.semantics.specs.Call.{refused, call, opening}

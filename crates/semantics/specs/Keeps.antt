@@ -15,7 +15,8 @@ use Rattle.namespace.specs.Soundness as Namespace
 use Rattle.namespace.specs.Keeps.{sound-remove}
 use Rattle.semantics.specs.Sizes.{group-limit, names-per-group, group-names}
 use Rattle.semantics.specs.State.{Group, State, find}
-use Rattle.semantics.specs.Steps.{Outcome, GroupCommand, register-name, re-register-name, unregister-name, whereis-name, registered-names, add-nodes, new-s-group, Command, within, whereis-name-at, send-at, send, send-name, remove-nodes, delete-s-group, own-nodes, own-s-groups, Result, target, as-member, held, full, bad-group, name-words, inside, outcome, apply, group-step, looked, nothing-found, look-in, ask, send-on, for-member, rule, step}
+use Rattle.semantics.specs.Commands.{GroupCommand, register-name, re-register-name, unregister-name, whereis-name, registered-names, add-nodes, new-s-group, Command, within, whereis-name-at, send-at, send, send-name, remove-nodes, delete-s-group, own-nodes, own-s-groups, held, bad-group}
+use Rattle.semantics.specs.Steps.{Outcome, Result, target, as-member, full, name-words, inside, outcome, apply, group-step, looked, nothing-found, look-in, ask, send-on, for-member, rule, step}
 use Rattle.semantics.specs.declared.Value.{Value}
 use Rattle.semantics.specs.declared.Reason.the-variants.{NotRegistered, NotMember}
 use Rattle.semantics.specs.Regular.{Regular}

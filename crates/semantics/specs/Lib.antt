@@ -1,5 +1,6 @@
 pub mod Answers
 pub mod Sizes
+pub mod Commands
 pub mod State
 pub mod Steps
 pub mod Table
@@ -35,6 +36,7 @@ pub mod Effects
 pub mod EntryPlaces
 pub mod Frame
 pub mod FreeNodes
+pub mod Growing
 pub mod Laid
 pub mod Lines
 pub mod Meaning

@@ -8,7 +8,8 @@ use Prim.Native.Nat.{ℕ, _+_, _≤_}
 use lib.ListN.{length}
 use Rattle.semantics.specs.Sizes.{group-limit, names-per-group}
 use Rattle.semantics.specs.State.{Group, State, find}
-use Rattle.semantics.specs.Steps.{Result, GroupCommand, target, creates, within, step}
+use Rattle.semantics.specs.Commands.{GroupCommand, within}
+use Rattle.semantics.specs.Steps.{Result, target, creates, step}
 use Rattle.semantics.specs.Fits.{Fits}
 use Rattle.semantics.specs.Table.{state-of}
 use Rattle.semantics.specs.Call.{Call, call}

@@ -9,7 +9,8 @@ use Rattle.namespace.specs.Entries.{Entry, insert, remove, lookup, holds-pid, w
 use Rattle.namespace.specs.Soundness.{is-ascending, is-distinct, is-hosted, sound-entries}
 use Rattle.semantics.specs.Sizes.{names-per-group, table-words}
 use Rattle.semantics.specs.State.{Group, State, find, put, add-group, drop-group}
-use Rattle.semantics.specs.Steps.{Command, within, new-s-group, register-name, re-register-name, unregister-name, whereis-name, whereis-name-at, delete-s-group, answer-of, interconnect, leave-free, one-free-group, connect, become-free, inside, outcome, apply, group-step, rule, step, opened}
+use Rattle.semantics.specs.Commands.{Command, within, new-s-group, register-name, re-register-name, unregister-name, whereis-name, whereis-name-at, delete-s-group, answer-of}
+use Rattle.semantics.specs.Steps.{interconnect, leave-free, one-free-group, connect, become-free, inside, outcome, apply, group-step, rule, step, opened}
 use Rattle.semantics.specs.Table.{sections, layout, state-of}
 use Rattle.semantics.specs.Test.{sound-group, sound-state, sound}
 use Rattle.semantics.specs.Call.{Call, call, opening}

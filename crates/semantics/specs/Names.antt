@@ -14,7 +14,7 @@ use Rattle.namespace.specs.Entries.{Entry, half-word, host, insert, remove, loo
 use Rattle.namespace.specs.Soundness.{Hosted, Sound}
 use Rattle.namespace.specs.Laws.{length-remove, lookup-remove-same}
 use Rattle.namespace.specs.Keeps.{length-remove-le, sound-insert, sound-remove}
-use Rattle.semantics.specs.Steps.{held}
+use Rattle.semantics.specs.Commands.{held}
 use Rattle.semantics.specs.Truth.{neither}
 
 pub not-held : {A : Type 0} (o : Option A) → held o ≡ false → o ≡ none

@@ -13,7 +13,8 @@ use Rattle.nodes.specs.Bools.{by-eq}
 use Rattle.namespace.specs.Entries.{Entry, lookup, holds-pid, host}
 use Rattle.semantics.specs.Sizes.{group-names, names-per-group, contents-at, table-words}
 use Rattle.semantics.specs.State.{Group, State, find, with-groups}
-use Rattle.semantics.specs.Steps.{GroupCommand, register-name, re-register-name, unregister-name, whereis-name, registered-names, add-nodes, new-s-group, target, Effect, keep, hold, Outcome, as-member, held, full, bad-group, inside, outcome, apply, group-step, Command, within, Result, step}
+use Rattle.semantics.specs.Commands.{GroupCommand, register-name, re-register-name, unregister-name, whereis-name, registered-names, add-nodes, new-s-group, held, bad-group, Command, within}
+use Rattle.semantics.specs.Steps.{target, Effect, keep, hold, Outcome, as-member, full, inside, outcome, apply, group-step, Result, step}
 use Rattle.semantics.specs.Table.{layout, state-of}
 use Rattle.semantics.specs.Test.{sound}
 use Rattle.semantics.specs.Call.{refused, written, call}

@@ -15,7 +15,8 @@ use Rattle.namespace.specs.Entries.{lookup}
 use Rattle.semantics.specs.Answers.{number}
 use Rattle.semantics.specs.Sizes.{names-per-group, links-at, free-at}
 use Rattle.semantics.specs.State.{Group, State, with-groups, free-of, find}
-use Rattle.semantics.specs.Steps.{Looked, within, new-s-group, whereis-name, whereis-name-at, delete-s-group, answer-of, held, looked, nothing-found, ask, tell, merge, lot, connect}
+use Rattle.semantics.specs.Commands.{within, new-s-group, whereis-name, whereis-name-at, delete-s-group, answer-of, held}
+use Rattle.semantics.specs.Steps.{Looked, looked, nothing-found, ask, tell, merge, lot, connect}
 use Rattle.semantics.specs.Table.{layout, state-of}
 use Rattle.semantics.specs.Call.{call}
 use Rattle.semantics.specs.Marked.{four, five, seventy}

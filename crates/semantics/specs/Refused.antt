@@ -1,6 +1,6 @@
 -- A refused call leaves every word of the table, but for the connection that a lookup or send by another node makes. Assumes nothing.
-use mathlib.Core.Path.{_≡_, refl, sym, ap, _∙_}
-use mathlib.Core.Logic.{_≢_}
+use mathlib.Core.Path.{_≡_, refl, ap, _∙_}
+use mathlib.Core.Logic.{_≢_, ⊎-elim}
 use mathlib.Core.Bool.{Bool, true, false, not, _&&_, cond}
 use mathlib.Core.Option.{Option, none, some}
 use mathlib.Core.List.{List}
@@ -9,19 +9,20 @@ use native.Mathlib.Omega.{arith}
 use lib.Dec.{eqb, leb, ltb}
 use lib.ListN.{length}
 use Rattle.nodes.specs.Sets.{has, beyond}
+use Rattle.nodes.specs.Bools.{by-test}
 use Rattle.namespace.specs.Entries.{lookup, holds-pid, host}
 use Rattle.semantics.specs.Answers.{number}
 use Rattle.semantics.specs.Sizes.{group-limit, group-names, names-per-group, table-words}
 use Rattle.semantics.specs.State.{Group, State, find}
-use Rattle.semantics.specs.Steps.{Command, GroupCommand, within, register-name, re-register-name, unregister-name, registered-names, whereis-name, new-s-group, add-nodes, whereis-name-at, send, send-name, send-at, remove-nodes, delete-s-group, own-nodes, own-s-groups}
-use Rattle.semantics.specs.Steps.{Outcome, Effect, keep, Result, Looked, error, listed, bad-group, as-member, for-member, held, full, name-words, look-reason, looked, look-in, nothing-found, ask, tell, send-on, asking, connect, own-list, inside, outcome, apply, target, group-step, rule, step}
+use Rattle.semantics.specs.Commands.{Command, GroupCommand, within, register-name, re-register-name, unregister-name, registered-names, whereis-name, new-s-group, add-nodes, whereis-name-at, send, send-name, send-at, remove-nodes, delete-s-group, own-nodes, own-s-groups, bad-group, held}
+use Rattle.semantics.specs.Steps.{Outcome, Effect, keep, Result, Looked, as-member, for-member, full, name-words, looked, look-in, ask, send-on, asking, connect, inside, outcome, apply, target, group-step, rule, step}
 use Rattle.semantics.specs.Table.{layout, state-of}
 use Rattle.semantics.specs.Test.{sound}
 use Rattle.semantics.specs.Agree.{test-regular}
-use Rattle.semantics.specs.Call.{Call, refused, written, call}
+use Rattle.semantics.specs.Call.{call}
+use Rattle.semantics.specs.Calls.{why, call-sound, call-unsound}
 use Rattle.semantics.specs.declared.Value.{Value}
-use Rattle.semantics.specs.declared.Reason.{Reason}
-use Rattle.semantics.specs.declared.Reason.the-variants.{Done, TableLength, Unsound, CallerUnknown}
+use Rattle.semantics.specs.declared.Reason.the-variants.{Done, TableLength, Unsound}
 
 -- ---- commands that name one s_group
 
@@ -124,19 +125,15 @@ step-still : (room i : ℕ) (c : Command) (st : State) → remote c ≡ false �
 unfolding step
 step-still room i c st e = s-if st (leb (st .size) i) _ _ (λ x. refl) (rule-still room i c st e)
 
--- a call, where its run is of another length or not, and sound or not
-abbrev judged : Bool → Bool → ℕ → ℕ → Command → List ℕ → Call
-judged short fine room i c t = cond short (refused TableLength t) (cond (not fine) (refused Unsound t) (written (step room i c (state-of names-per-group t))))
-
 -- a refused call that asks no other node leaves every word
 pub refused-keeps : (room i : ℕ) (c : Command) (t : List ℕ) → remote c ≡ false → call room i c t .answer .reason ≢ Done → call room i c t .table ≡ t
-unfolding call
-refused-keeps room i c t e = go (not (eqb (length t) (table-words names-per-group))) (sound names-per-group t) refl
-  where
-    go : (a b : Bool) → sound names-per-group t ≡ b → judged a b room i c t .answer .reason ≢ Done → judged a b room i c t .table ≡ t
-    go true b p x = refl
-    go false false p x = refl
-    go false true p x = ap (layout names-per-group) (step-still room i c (state-of names-per-group t) e x) ∙ test-regular names-per-group t p .1
+refused-keeps room i c t e n =
+    ⊎-elim
+    (λ (p : sound names-per-group t ≡ true).
+    let q = call-sound room i c t p in
+    rw q (ap (layout names-per-group) (step-still room i c (state-of names-per-group t) e (rw q at n)) ∙ test-regular names-per-group t p .1))
+    (λ (p : sound names-per-group t ≡ false). rw (call-unsound room i c t p))
+    (by-test (sound names-per-group t))
 
 -- ---- lookups and sends by another node
 
@@ -168,18 +165,23 @@ step-linked room i j c (by-send {s = s} {n = n}) st =
     k-if st _ (leb (st .size) i) _ _ (λ x. (λ a. refl, λ a. absurd (omega (arith, a))))
     (k-asking i j s n st _ (λ x. (λ a. absurd (omega (arith, a, l-ask j s n st x .1)), λ a. ap (λ (f : Option ℕ). send-on i f (connect i j st)) (l-ask j s n st x .0))))
 
+-- a run that is no sound table is refused with 1 or 3
+low : (t : List ℕ) → number (why t) < 8
+low t = go (eqb (length t) (table-words names-per-group))
+  where
+    go : (x : Bool) → number (cond x Unsound TableLength) < 8
+    go true = omega arith
+    go false = omega arith
+
 -- a refused call that asks the node j: below reason 8 every word stays; from 8 on the caller and j are connected, and nothing else changes
 pub refused-links : (room i j : ℕ) (c : Command) → Asks c j → (t : List ℕ) → call room i c t .answer .reason ≢ Done
     → (number (call room i c t .answer .reason) < 8 → call room i c t .table ≡ t)
     × (8 ≤ number (call room i c t .answer .reason) → call room i c t .table ≡ layout names-per-group (connect i j (state-of names-per-group t)))
-unfolding call
-refused-links room i j c q t = go (not (eqb (length t) (table-words names-per-group))) (sound names-per-group t) refl
-  where
-    go : (a b : Bool) → sound names-per-group t ≡ b → judged a b room i c t .answer .reason ≢ Done
-        → (number (judged a b room i c t .answer .reason) < 8 → judged a b room i c t .table ≡ t)
-        × (8 ≤ number (judged a b room i c t .answer .reason) → judged a b room i c t .table ≡ layout names-per-group (connect i j (state-of names-per-group t)))
-    go true b p x = (λ a. refl, λ a. absurd (omega (arith, a)))
-    go false false p x = (λ a. refl, λ a. absurd (omega (arith, a)))
-    go false true p x =
-        let w = step-linked room i j c q (state-of names-per-group t) x in
-        (λ a. ap (layout names-per-group) (w .0 a) ∙ test-regular names-per-group t p .1, λ a. ap (layout names-per-group) (w .1 a))
+refused-links room i j c k t n =
+    ⊎-elim
+    (λ (p : sound names-per-group t ≡ true).
+    let q = call-sound room i c t p in
+    let w = step-linked room i j c k (state-of names-per-group t) (rw q at n) in
+    rw q (λ a. ap (layout names-per-group) (w .0 a) ∙ test-regular names-per-group t p .1, λ a. ap (layout names-per-group) (w .1 a)))
+    (λ (p : sound names-per-group t ≡ false). rw (call-unsound room i c t p) (λ a. refl, λ a. absurd (omega (arith, a, low t))))
+    (by-test (sound names-per-group t))

@@ -8,6 +8,7 @@ use lib.Dec.{eqb, leb, ltb}
 use lib.ListN.{length, replicate}
 use Rattle.nodes.specs.Sets.{node-limit, has, empty, single, union, inter, diff, beyond, count, union-all}
 use Rattle.namespace.specs.Entries.{Entry, half-word, host, insert, remove, lookup, holds-pid}
+use Rattle.semantics.specs.Commands.{Command, GroupCommand, within, register-name, re-register-name, unregister-name, whereis-name, registered-names, add-nodes, new-s-group, whereis-name-at, send-at, send, send-name, remove-nodes, delete-s-group, own-nodes, own-s-groups, bad-group, held, answer-of}
 use Rattle.semantics.specs.Sizes.{group-limit, names-per-group, group-names}
 use Rattle.semantics.specs.State.{Group, State, with-groups, with-links, with-free, free-of, find, put, add-group, drop-group, all-members}
 use Rattle.semantics.specs.declared.Answer.{Answer}
@@ -88,9 +89,6 @@ pub record Result : Type 0 where
   pub list : List ℕ
   pub next : State
 
-abbrev pub answer-of : Value → Reason → Answer
-answer-of v r = record { value = v; reason = r }
-
 -- an answer without a list
 abbrev pub reply : Value → Reason → State → Result
 reply v r st = record { answer = answer-of v r; list = []; next = st }
@@ -98,13 +96,7 @@ reply v r st = record { answer = answer-of v r; list = []; next = st }
 abbrev pub error : Reason → State → Result
 error r st = reply Error r st
 
--- ---- the seven commands that change one s_group at most and free no node. All but new_s_group feel that s_group alone; it feels how many there are
-
-pub data GroupCommand : Type 0 where
-  register-name re-register-name : ℕ → ℕ → ℕ → GroupCommand  -- s n p
-  unregister-name whereis-name : ℕ → ℕ → GroupCommand  -- s n
-  registered-names : ℕ → GroupCommand  -- s
-  add-nodes new-s-group : ℕ → ℕ → GroupCommand  -- s set
+-- ---- the seven commands of one s_group. All but new_s_group feel that s_group alone; it feels how many there are
 
 -- the s_group that it names
 abbrev pub target : GroupCommand → ℕ
@@ -154,19 +146,10 @@ listed room ws =
     cond (ltb room (length ws)) (say Error RunShort)
     (record { answer = answer-of (Listed (length ws)) Done; list = ws; effect = keep })
 
--- an s_group's name is out of range: names are 1 to 65,535
-abbrev pub bad-group : ℕ → Bool
-bad-group s = eqb s 0 || leb group-names s
-
 -- for a member of the s_group; or v, with the reason that there is none or that node i is not in it
 abbrev pub as-member : ℕ → Value → Option Group → (Group → Outcome) → Outcome
 as-member i v none k = say v GroupUnknown
 as-member i v (some g) k = cond (has (g .members) i) (k g) (say v NotMember)
-
--- whether something was found
-abbrev pub held : {A : Type 0} → Option A → Bool
-held none = false
-held (some a) = true
 
 -- what a lookup finds is the pid, or Undefined
 abbrev pub pid-or-undefined : Option ℕ → Value
@@ -249,15 +232,6 @@ unfoldable pub group-step : ℕ → ℕ → GroupCommand → State → Result
 group-step room i c st = settle (target c) (outcome room (st .size) (length (st .groups)) i c (find (target c) (st .groups))) st
 
 -- ---- all fifteen
-
-pub data Command : Type 0 where
-  within : GroupCommand → Command
-  whereis-name-at send-at : ℕ → ℕ → ℕ → Command  -- ni′ s n
-  send : ℕ → Command  -- p
-  send-name : ℕ → ℕ → Command  -- s n
-  remove-nodes : ℕ → ℕ → Command  -- s set
-  delete-s-group : ℕ → Command  -- s
-  own-nodes own-s-groups : Command
 
 -- what a lookup finds, and why nothing where it doesn't
 pub record Looked : Type 0 where

@@ -12,7 +12,8 @@ use borrow.Author.Tests.{lt-leb}
 use Rattle.nodes.specs.Sets.{has}
 use Rattle.semantics.specs.Sizes.{group-limit}
 use Rattle.semantics.specs.State.{Group, State, find}
-use Rattle.semantics.specs.Steps.{Result, Effect, Outcome, GroupCommand, register-name, re-register-name, unregister-name, whereis-name, registered-names, add-nodes, new-s-group, target, creates, say, bad-group, as-member, inside, outcome, apply, settle, group-step}
+use Rattle.semantics.specs.Commands.{GroupCommand, register-name, re-register-name, unregister-name, whereis-name, registered-names, add-nodes, new-s-group, bad-group}
+use Rattle.semantics.specs.Steps.{Result, Effect, Outcome, target, creates, say, as-member, inside, outcome, apply, settle, group-step}
 use Rattle.semantics.specs.Effects.{apply-comm, find-apply-other, size-apply, made, made-one, length-apply}
 use Rattle.semantics.specs.Within.{step-within}
 use Rattle.semantics.specs.Lines.{Said, Line, key, said-by-step, step-of, step-move, step-say, cost, Room-for}

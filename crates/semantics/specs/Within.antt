@@ -6,7 +6,8 @@ use Prim.Native.Nat.{ℕ}
 use lib.Dec.{leb}
 use Rattle.nodes.specs.Bools.{by-test}
 use Rattle.semantics.specs.State.{State}
-use Rattle.semantics.specs.Steps.{GroupCommand, within, group-step, outcome, apply, rule, step}
+use Rattle.semantics.specs.Commands.{GroupCommand, within}
+use Rattle.semantics.specs.Steps.{group-step, outcome, apply, rule, step}
 
 pub step-within : (room i : ℕ) (c : GroupCommand) (st : State) → step room i (within c) st ≡ group-step room i c st
 unfolding step rule group-step outcome apply

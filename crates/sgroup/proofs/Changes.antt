@@ -17,7 +17,7 @@ use Rattle.namespace.specs.declared.Found.{Found}
 use Rattle.namespace.specs.declared.Found.the-variants as found-as
 use Rattle.namespace.specs.declared.Held.{Held}
 use Rattle.namespace.specs.declared.Held.the-variants as held-as
-use Rattle.semantics.specs.Steps.{held}
+use Rattle.semantics.specs.Commands.{held}
 use Rattle.sgroup.specs.NamesHere.{changed}
 
 -- ---- a change

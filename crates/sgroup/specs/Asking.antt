@@ -9,7 +9,8 @@ use borrow.Author.Tests.{ne-eqb}
 use Rattle.nodes.specs.Sets.{has}
 use Rattle.nodes.specs.Bools.{by-test}
 use Rattle.semantics.specs.State.{Group, State, find}
-use Rattle.semantics.specs.Steps.{within, whereis-name, as-member, look-in, ask, tell, apply, settle}
+use Rattle.semantics.specs.Commands.{within, whereis-name}
+use Rattle.semantics.specs.Steps.{as-member, look-in, ask, tell, apply, settle}
 use Rattle.semantics.specs.declared.Value.the-variants.{Undefined}
 use Rattle.semantics.specs.declared.Reason.{Reason}
 use Rattle.semantics.specs.declared.Reason.the-variants.{Done}

@@ -6,7 +6,8 @@ use mathlib.Core.List.{List}
 use Prim.Native.Nat.{ℕ}
 use lib.ListN.{length}
 use Rattle.semantics.specs.Sizes.{names-per-group}
-use Rattle.semantics.specs.Steps.{Result, Command, answer-of, reply}
+use Rattle.semantics.specs.Commands.{Command, answer-of}
+use Rattle.semantics.specs.Steps.{Result, reply}
 use Rattle.semantics.specs.Test.{sound}
 use Rattle.semantics.specs.Call.{Call, call, written, listed-over}
 use Rattle.semantics.specs.Calls.{call-sound, call-unsound, why}

@@ -7,7 +7,8 @@ use native.Mathlib.Omega.{arith}
 use lib.ListN.{length}
 use Rattle.semantics.specs.Sizes.{group-limit, names-per-group}
 use Rattle.semantics.specs.State.{Group}
-use Rattle.semantics.specs.Steps.{Command, GroupCommand, within, target, Outcome, Result, answer-of}
+use Rattle.semantics.specs.Commands.{Command, GroupCommand, within, answer-of}
+use Rattle.semantics.specs.Steps.{target, Outcome, Result}
 use Rattle.semantics.specs.Test.{sound}
 use Rattle.semantics.specs.Call.{listed-over}
 use Rattle.semantics.specs.Places.{group-at}

@@ -10,7 +10,8 @@ use Rattle.nodes.specs.Sets.{has, empty, union, inter, diff}
 use Rattle.nodes.specs.Laws.{has-diff, subset-diff}
 use Rattle.semantics.specs.Sizes.{group-limit, names-per-group, members-at}
 use Rattle.semantics.specs.State.{Group, State, with-groups, with-links, with-free, find, put, drop-group, all-members}
-use Rattle.semantics.specs.Steps.{interconnect, leave-free, become-free, Result, answer-of, reply, error, Command, within, new-s-group, add-nodes, remove-nodes, delete-s-group, held, for-member, left-in, apply}
+use Rattle.semantics.specs.Commands.{answer-of, Command, within, new-s-group, add-nodes, remove-nodes, delete-s-group, held}
+use Rattle.semantics.specs.Steps.{interconnect, leave-free, become-free, Result, reply, error, for-member, left-in, apply}
 use Rattle.semantics.specs.Test.{sound}
 use Rattle.semantics.specs.Truth.{or-cases, unless}
 use Rattle.semantics.specs.Groups.{Found, all-found, all-put}

@@ -6,7 +6,7 @@ use Rattle.nodes.specs.Sets.{has, beyond}
 use Rattle.namespace.specs.Entries.{host}
 use Rattle.semantics.specs.Answers.{number}
 use Rattle.semantics.specs.Sizes.{group-limit, group-names}
-use Rattle.semantics.specs.Steps.{bad-group}
+use Rattle.semantics.specs.Commands.{bad-group}
 use Rattle.semantics.specs.declared.Reason.{Reason}
 use Rattle.semantics.specs.declared.Reason.the-variants.{Done, CallerUnknown, GroupNameRange, NameZero, NodeUnknown, CallerOutside, GroupTaken, GroupsFull}
 

@@ -11,7 +11,8 @@ use Rattle.nodes.specs.Bools.{by-test}
 use Rattle.namespace.specs.Entries.{host, insert, remove, lookup, holds-pid}
 use Rattle.semantics.specs.Sizes.{group-limit, group-names}
 use Rattle.semantics.specs.State.{Group, State, find, drop-group}
-use Rattle.semantics.specs.Steps.{connect, become-free, Result, reply, error, GroupCommand, register-name, re-register-name, unregister-name, whereis-name, registered-names, add-nodes, new-s-group, target, hold, join, create, Outcome, done, say, listed, bad-group, as-member, held, pid-or-undefined, look-reason, full, name-words, inside, outcome, apply, settle, group-step, Command, within, whereis-name-at, send-at, send, send-name, remove-nodes, delete-s-group, own-nodes, own-s-groups, ask, tell, send-on, for-member, left-in, own-set, own-list, told, rule, step}
+use Rattle.semantics.specs.Commands.{GroupCommand, register-name, re-register-name, unregister-name, whereis-name, registered-names, add-nodes, new-s-group, bad-group, held, Command, within, whereis-name-at, send-at, send, send-name, remove-nodes, delete-s-group, own-nodes, own-s-groups}
+use Rattle.semantics.specs.Steps.{connect, become-free, Result, reply, error, target, hold, join, create, Outcome, done, say, listed, as-member, pid-or-undefined, look-reason, full, name-words, inside, outcome, apply, settle, group-step, ask, tell, send-on, for-member, left-in, own-set, own-list, told, rule, step}
 use Rattle.semantics.specs.Within.{step-within}
 use Rattle.semantics.specs.declared.Value.{Value}
 use Rattle.semantics.specs.declared.Value.the-variants.{True, False, Error, Undefined, Pid, Grouped, Nodes, Listed}

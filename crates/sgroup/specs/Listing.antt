@@ -16,7 +16,8 @@ use Rattle.namespace.specs.declared.Counted.{Counted}
 use Rattle.namespace.specs.declared.Counted.the-variants as counted-as
 use Rattle.semantics.specs.Sizes.{names-per-group, bodies-at}
 use Rattle.semantics.specs.State.{State}
-use Rattle.semantics.specs.Steps.{Outcome, answer-of, name-words}
+use Rattle.semantics.specs.Commands.{answer-of}
+use Rattle.semantics.specs.Steps.{Outcome, name-words}
 use Rattle.semantics.specs.Steps as Steps
 use Rattle.semantics.specs.Call.{listed-over}
 use Rattle.semantics.specs.Places.{group-at}

@@ -16,7 +16,8 @@ use Rattle.namespace.specs.declared.Change.{Change}
 use Rattle.namespace.specs.declared.Change.the-variants as change
 use Rattle.semantics.specs.Sizes.{group-names, names-per-group, contents-at, bodies-at}
 use Rattle.semantics.specs.State.{Group, State, with-groups}
-use Rattle.semantics.specs.Steps.{hold, held, apply, looked, nothing-found, ask}
+use Rattle.semantics.specs.Commands.{held}
+use Rattle.semantics.specs.Steps.{hold, apply, looked, nothing-found, ask}
 use Rattle.semantics.specs.Regular.{Regular-group, Regular}
 use Rattle.semantics.specs.Places.{no-group, every-iff}
 use Rattle.semantics.specs.Names.{not-held}

@@ -8,7 +8,7 @@ use borrow.Author.Tests.{eqb-false, leb-false, not-false}
 use Rattle.nodes.specs.Sets.{has, beyond}
 use Rattle.namespace.specs.Entries.{host}
 use Rattle.semantics.specs.Sizes.{group-limit, group-names}
-use Rattle.semantics.specs.Steps.{bad-group}
+use Rattle.semantics.specs.Commands.{bad-group}
 use Rattle.semantics.specs.Truth.{neither}
 use Rattle.semantics.specs.declared.Reason.{Reason}
 use Rattle.semantics.specs.declared.Reason.the-variants.{Done, TableLength, RosterSize, Unsound, CallerUnknown, GroupNameRange, NameZero, NodeUnknown, GroupUnknown, NotMember, NameTaken, PidTaken, NotRegistered, NamespaceFull, CallerOutside, GroupTaken, GroupsFull, RunShort}

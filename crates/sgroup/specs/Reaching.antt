@@ -10,7 +10,8 @@ use Rattle.nodes.specs.Sets.{node-limit, has}
 use Rattle.namespace.specs.Entries.{host, lookup}
 use Rattle.semantics.specs.Sizes.{names-per-group}
 use Rattle.semantics.specs.State.{Group, State, find}
-use Rattle.semantics.specs.Steps.{connect, answer-of, whereis-name-at, send-at, send-name, pid-or-undefined, Looked, looked, nothing-found, look-in, ask, send-on}
+use Rattle.semantics.specs.Commands.{answer-of, whereis-name-at, send-at, send-name}
+use Rattle.semantics.specs.Steps.{connect, pid-or-undefined, Looked, looked, nothing-found, look-in, ask, send-on}
 use Rattle.semantics.specs.Test.{sound}
 use Rattle.semantics.specs.Regular.{Regular}
 use Rattle.semantics.specs.Names.{host-found}

@@ -11,7 +11,8 @@ use Rattle.namespace.specs.Entries.{Entry, insert, remove, renew, lookup, holds
 use Rattle.namespace.specs.Laws.{remove-absent, renew-absent, renew-is-insert-remove}
 use Rattle.semantics.specs.Sizes.{names-per-group}
 use Rattle.semantics.specs.State.{State}
-use Rattle.semantics.specs.Steps.{Command, Outcome, answer-of, done, say, hold, held, full, apply, settle}
+use Rattle.semantics.specs.Commands.{Command, answer-of, held}
+use Rattle.semantics.specs.Steps.{Outcome, done, say, hold, full, apply, settle}
 use Rattle.semantics.specs.Test.{sound}
 use Rattle.semantics.specs.Regular.{Regular}
 use Rattle.semantics.specs.Names.{not-held}

@@ -5,7 +5,7 @@ use mathlib.Core.List.{List}
 use Prim.Native.Nat.{ℕ}
 use lib.ListN.{length}
 use Rattle.semantics.specs.Sizes.{names-per-group, table-words}
-use Rattle.semantics.specs.Steps.{Command, answer-of}
+use Rattle.semantics.specs.Commands.{Command, answer-of}
 use Rattle.semantics.specs.Test.{sound}
 use Rattle.semantics.specs.Calls.{why}
 use Rattle.semantics.specs.Agree.{test-regular}

@@ -22,7 +22,7 @@ ghost use mathlib.Core.Path.{_≡_};
 ghost use mathlib.Core.Bool.{true};
 ghost use lib.ListN.{length};
 ghost use Rattle.semantics.specs.Sizes.{names-per-group, table-words};
-ghost use Rattle.semantics.specs.Steps.{within, new-s-group, add-nodes, remove-nodes, delete-s-group};
+ghost use Rattle.semantics.specs.Commands.{within, new-s-group, add-nodes, remove-nodes, delete-s-group};
 ghost use Rattle.semantics.specs.Test.{sound};
 ghost use Rattle.semantics.specs.Call.{call};
 

@@ -5,7 +5,7 @@ use semantics::Value;
 use table::TABLE_WORDS;
 ghost use mathlib.Core.Path.{_≡_};
 ghost use lib.ListN.{length};
-ghost use Rattle.semantics.specs.Steps.{answer-of, within, register-name, re-register-name, unregister-name, registered-names, whereis-name, new-s-group, add-nodes, whereis-name-at, send, send-name, send-at, remove-nodes, delete-s-group, own-nodes, own-s-groups};
+ghost use Rattle.semantics.specs.Commands.{answer-of, within, register-name, re-register-name, unregister-name, registered-names, whereis-name, new-s-group, add-nodes, whereis-name-at, send, send-name, send-at, remove-nodes, delete-s-group, own-nodes, own-s-groups};
 ghost use Rattle.semantics.specs.Call.{call, listed-over};
 ghost use Rattle.semantics.specs.Calls.{why};
 ghost use Rattle.semantics.specs.declared.Value.the-variants.{Error};

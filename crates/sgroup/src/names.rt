@@ -18,7 +18,8 @@ ghost use Rattle.namespace.specs.Entries.{insert, remove, renew, lookup, rank, 
 ghost use Rattle.namespace.specs.Raw.{answer-at};
 ghost use Rattle.semantics.specs.Sizes.{group-limit, names-per-group, table-words};
 ghost use Rattle.semantics.specs.State.{State};
-ghost use Rattle.semantics.specs.Steps.{held, ask};
+ghost use Rattle.semantics.specs.Commands.{held};
+ghost use Rattle.semantics.specs.Steps.{ask};
 ghost use Rattle.semantics.specs.Table.{state-of};
 ghost use Rattle.semantics.specs.Test.{sound};
 ghost use Rattle.semantics.specs.Laid.{Laid};

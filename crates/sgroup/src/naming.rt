@@ -21,7 +21,7 @@ ghost use Prim.Native.Nat.{ℕ, _<_};
 ghost use lib.ListN.{length};
 ghost use Rattle.semantics.specs.Sizes.{group-limit, names-per-group, table-words};
 ghost use Rattle.semantics.specs.State.{State};
-ghost use Rattle.semantics.specs.Steps.{within, register-name, re-register-name, unregister-name};
+ghost use Rattle.semantics.specs.Commands.{within, register-name, re-register-name, unregister-name};
 ghost use Rattle.semantics.specs.Test.{sound};
 ghost use Rattle.semantics.specs.Call.{call};
 ghost use Rattle.semantics.specs.Regular.{Regular};

@@ -15,7 +15,7 @@ ghost use mathlib.Core.Path.{_≡_};
 ghost use mathlib.Core.Bool.{true};
 ghost use lib.ListN.{length};
 ghost use Rattle.semantics.specs.Sizes.{names-per-group, table-words};
-ghost use Rattle.semantics.specs.Steps.{whereis-name-at, send, send-name, send-at};
+ghost use Rattle.semantics.specs.Commands.{whereis-name-at, send, send-name, send-at};
 ghost use Rattle.semantics.specs.Test.{sound};
 ghost use Rattle.semantics.specs.Call.{call};
 

@@ -5,7 +5,7 @@ use Prim.Native.Nat.{ℕ}
 use lib.Dec.{ltb}
 use lib.ListN.{length, drop, getD}
 use Rattle.semantics.specs.Answers.{number, kind, numbers}
-use Rattle.semantics.specs.Steps.{Command}
+use Rattle.semantics.specs.Commands.{Command}
 use Rattle.semantics.specs.Call.{Call, call, listed-over}
 use Rattle.semantics.specs.declared.Answer.{Answer}
 use Rattle.semantics.specs.declared.Value.{Value}

@@ -7,7 +7,7 @@ ghost use Prim.Native.Nat.{_≤_};
 ghost use lib.ListN.{length, drop};
 ghost use Rattle.semantics.specs.Answers.{number};
 ghost use Rattle.semantics.specs.Sizes.{names-per-group};
-ghost use Rattle.semantics.specs.Steps.{within, register-name, re-register-name, unregister-name, registered-names, whereis-name, whereis-name-at, send, send-name, send-at, new-s-group, add-nodes, remove-nodes, delete-s-group, own-nodes, own-s-groups};
+ghost use Rattle.semantics.specs.Commands.{within, register-name, re-register-name, unregister-name, registered-names, whereis-name, whereis-name-at, send, send-name, send-at, new-s-group, add-nodes, remove-nodes, delete-s-group, own-nodes, own-s-groups};
 ghost use Rattle.semantics.specs.Call.{opening};
 ghost use Rattle.semantics.specs.Test.{sound};
 ghost use Rattle.sgroup_c.specs.Numbers.{answer-words, first, second, answer-in, told, commanded};

@@ -11,7 +11,8 @@ use borrow.Author.Tests.{eq-eqb, ne-eqb, lt-ltb, le-ltb}
 use Rattle.nodes.specs.Sets.{node-limit, has, single, union, roster, diff, beyond, with-node}
 use Rattle.nodes.specs.Laws.{has-diff, has-roster, none-union}
 use Rattle.semantics.specs.Sizes.{group-limit, names-per-group, head-words, free-at, bodies-at, table-words}
-use Rattle.semantics.specs.Steps.{mapi, answer-of, each-alone, opened}
+use Rattle.semantics.specs.Commands.{answer-of}
+use Rattle.semantics.specs.Steps.{mapi, each-alone, opened}
 use Rattle.semantics.specs.Table.{cat, sections, layout}
 use Rattle.semantics.specs.Call.{Call, refused, opening}
 use Rattle.semantics.specs.Sections.{Run, store, lent}

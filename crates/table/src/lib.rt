@@ -4,7 +4,7 @@ ghost use Prim.Native.Nat.{_≤_};
 ghost use lib.ListN.{length};
 ghost use Rattle.semantics.specs.Sizes.{group-limit, names-per-group, table-words};
 ghost use Rattle.semantics.specs.Test.{sound};
-ghost use Rattle.semantics.specs.Steps.{answer-of};
+ghost use Rattle.semantics.specs.Commands.{answer-of};
 ghost use Rattle.semantics.specs.Call.{opening};
 ghost use Rattle.semantics.specs.declared.Value.the-variants.{Error};
 ghost use Rattle.table.specs.Tests.{head-right, unused-zero, loose-in, parts-right};

@@ -2,7 +2,7 @@
 -- Assumes nothing.
 use borrow.Author.Needs.{needs}
 use mathlib.Core.Path.{sym, _∙_}
-use Rattle.semantics.specs.Steps.{delete-s-group}
+use Rattle.semantics.specs.Commands.{delete-s-group}
 use Rattle.sgroup.specs.Unfit.{sound-run, says-unfit}
 use Rattle.sgroup.proofs.delete_s_group.Statement.{statement}
 use Rattle.sgroup.proofs.delete_s_group.Tie as tie

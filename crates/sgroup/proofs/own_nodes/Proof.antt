@@ -2,7 +2,7 @@
 -- Assumes nothing.
 use borrow.Author.Needs.{needs}
 use mathlib.Core.Path.{sym, _∙_}
-use Rattle.semantics.specs.Steps.{own-nodes}
+use Rattle.semantics.specs.Commands.{own-nodes}
 use Rattle.sgroup.specs.Unfit.{sound-run, says-unfit}
 use Rattle.sgroup.proofs.own_nodes.Statement.{statement}
 use Rattle.sgroup.proofs.own_nodes.Tie as tie

@@ -2,7 +2,7 @@
 -- Assumes nothing.
 use borrow.Author.Needs.{needs}
 use mathlib.Core.Path.{sym, _∙_}
-use Rattle.semantics.specs.Steps.{own-s-groups}
+use Rattle.semantics.specs.Commands.{own-s-groups}
 use Rattle.sgroup.specs.Unfit.{sound-run, lists-unfit}
 use Rattle.sgroup.proofs.own_s_groups.Statement.{statement}
 use Rattle.sgroup.proofs.own_s_groups.Tie as tie

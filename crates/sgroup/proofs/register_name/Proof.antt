@@ -2,7 +2,7 @@
 -- Assumes nothing.
 use borrow.Author.Needs.{needs}
 use mathlib.Core.Path.{sym, _∙_}
-use Rattle.semantics.specs.Steps.{within, register-name}
+use Rattle.semantics.specs.Commands.{within, register-name}
 use Rattle.sgroup.specs.Unfit.{sound-run, says-unfit}
 use Rattle.sgroup.proofs.register_name.Statement.{statement}
 use Rattle.sgroup.proofs.register_name.Tie as tie

@@ -2,7 +2,7 @@
 -- Assumes nothing.
 use borrow.Author.Needs.{needs}
 use mathlib.Core.Path.{sym, _∙_}
-use Rattle.semantics.specs.Steps.{within, registered-names}
+use Rattle.semantics.specs.Commands.{within, registered-names}
 use Rattle.sgroup.specs.Unfit.{sound-run, lists-unfit}
 use Rattle.sgroup.proofs.registered_names.Statement.{statement}
 use Rattle.sgroup.proofs.registered_names.Tie as tie

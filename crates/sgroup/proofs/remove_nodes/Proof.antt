@@ -2,7 +2,7 @@
 -- Assumes nothing.
 use borrow.Author.Needs.{needs}
 use mathlib.Core.Path.{sym, _∙_}
-use Rattle.semantics.specs.Steps.{remove-nodes}
+use Rattle.semantics.specs.Commands.{remove-nodes}
 use Rattle.sgroup.specs.Unfit.{sound-run, says-unfit}
 use Rattle.sgroup.proofs.remove_nodes.Statement.{statement}
 use Rattle.sgroup.proofs.remove_nodes.Tie as tie

@@ -2,7 +2,7 @@
 -- Assumes nothing.
 use borrow.Author.Needs.{needs}
 use mathlib.Core.Path.{sym, _∙_}
-use Rattle.semantics.specs.Steps.{send-at}
+use Rattle.semantics.specs.Commands.{send-at}
 use Rattle.sgroup.specs.Unfit.{sound-run, says-unfit}
 use Rattle.sgroup.proofs.send_at.Statement.{statement}
 use Rattle.sgroup.proofs.send_at.Tie as tie

@@ -2,7 +2,7 @@
 -- Assumes nothing.
 use borrow.Author.Needs.{needs}
 use mathlib.Core.List.{[]}
-use Rattle.semantics.specs.Steps.{own-nodes}
+use Rattle.semantics.specs.Commands.{own-nodes}
 use Rattle.semantics.specs.Call.{call}
 use Rattle.sgroup_c.specs.Told.{silent, tells}
 use Rattle.sgroup_c.proofs.sgroup_own_nodes.Statement.{statement}

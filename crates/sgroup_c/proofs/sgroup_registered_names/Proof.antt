@@ -2,7 +2,7 @@
 -- Assumes nothing.
 use borrow.Author.Needs.{needs}
 use lib.ListN.{length}
-use Rattle.semantics.specs.Steps.{within, registered-names}
+use Rattle.semantics.specs.Commands.{within, registered-names}
 use Rattle.semantics.specs.Call.{call}
 use Rattle.sgroup_c.specs.Told.{silent-list, tells-list}
 use Rattle.sgroup_c.proofs.sgroup_registered_names.Statement.{statement}

@@ -2,7 +2,7 @@
 -- Assumes nothing.
 use borrow.Author.Needs.{needs}
 use mathlib.Core.List.{[]}
-use Rattle.semantics.specs.Steps.{send-name}
+use Rattle.semantics.specs.Commands.{send-name}
 use Rattle.semantics.specs.Call.{call}
 use Rattle.sgroup_c.specs.Told.{silent-table, tells-table}
 use Rattle.sgroup_c.proofs.sgroup_send_name.Statement.{statement}

@@ -2,7 +2,7 @@
 -- Assumes nothing.
 use borrow.Author.Needs.{needs}
 use mathlib.Core.List.{[]}
-use Rattle.semantics.specs.Steps.{within, whereis-name}
+use Rattle.semantics.specs.Commands.{within, whereis-name}
 use Rattle.semantics.specs.Call.{call}
 use Rattle.sgroup_c.specs.Told.{silent, tells}
 use Rattle.sgroup_c.proofs.sgroup_whereis_name.Statement.{statement}

@@ -5,7 +5,7 @@ use mathlib.Core.Path.{_≡_, refl, ap}
 use mathlib.Core.Bool.{Bool, true, false, cond}
 use Prim.Native.Nat.{ℕ}
 use borrow.Author.Tests.{ne-eqb}
-use Rattle.semantics.specs.Steps.{own-s-groups}
+use Rattle.semantics.specs.Commands.{own-s-groups}
 use Rattle.line.specs.Commands.{Form, last-form, forms, form-from, form-of, command-of}
 use Rattle.script.specs.Acts.{acts-bare, acts-read, acts-list}
 use Rattle.script.proofs.calls.act.Statement.{statement}

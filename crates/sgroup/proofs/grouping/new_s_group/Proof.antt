@@ -5,7 +5,7 @@ use mathlib.Core.Path.{sym, ap, _∙_}
 use mathlib.Core.Bool.{false}
 use native.Mathlib.Omega.{arith}
 use lib.ListN.{length, getD, length-append}
-use Rattle.semantics.specs.Steps.{held}
+use Rattle.semantics.specs.Commands.{held}
 use Rattle.semantics.specs.Laid.{Laid, count-is}
 use Rattle.semantics.specs.Sizes.{names-per-group}
 use Rattle.sgroup.specs.declared.place.Place.the-variants.{At, Gap}

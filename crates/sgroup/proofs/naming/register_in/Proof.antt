@@ -7,7 +7,7 @@ use native.Mathlib.Omega.{arith}
 use Rattle.namespace.specs.Entries.{lookup, rank}
 use Rattle.semantics.specs.Sizes.{names-per-group}
 use Rattle.semantics.specs.State.{State}
-use Rattle.semantics.specs.Steps.{held}
+use Rattle.semantics.specs.Commands.{held}
 use Rattle.semantics.specs.Names.{not-held}
 use Rattle.semantics.specs.Laid.{Laid}
 use Rattle.sgroup.specs.Names.{Standing, names-at}

@@ -6,7 +6,7 @@ use native.Mathlib.Omega.{arith}
 use Prim.Native.Nat.{ℕ}
 use lib.ListN.{getD}
 use Rattle.nodes.specs.Sets.{count}
-use Rattle.semantics.specs.Steps.{answer-of}
+use Rattle.semantics.specs.Commands.{answer-of}
 use Rattle.semantics.specs.Table.{state-of}
 use Rattle.semantics.specs.declared.Value.the-variants.{Nodes}
 use Rattle.semantics.specs.declared.Reason.the-variants.{Done}

@@ -3,7 +3,8 @@
 use borrow.Author.Needs.{needs}
 use mathlib.Core.Path.{_≡_, sym, ap, _∙_}
 use native.Mathlib.Omega.{arith}
-use Rattle.semantics.specs.Steps.{within, whereis-name, Looked, tell}
+use Rattle.semantics.specs.Commands.{within, whereis-name}
+use Rattle.semantics.specs.Steps.{Looked, tell}
 use Rattle.semantics.specs.Table.{state-of}
 use Rattle.semantics.specs.Call.{call}
 use Rattle.sgroup.specs.declared.names.Lookup.{Lookup}

@@ -2,11 +2,11 @@
  *
  * Link with libsgroup_c.a (`tools/native-lib sgroup_c` builds it into target/native/).
  *
- * A run of words is a pointer and a length in words. A pointer is aligned for uint64_t and not null, even where the length is 0, and the runs of one
- * call don't overlap. Nothing else is asked of a caller: each function is proved to end with the answer of its definition for every table,
- * number and length, and to write what the definition says and no other word.
+ * A run of words is a pointer and a length in words. A pointer points to that many words, is aligned for uint64_t and not null, even where the length is
+ * 0; the runs of one call don't overlap, and nobody else uses them during the call. Nothing else is asked of a caller: each function is proved to
+ * end with the answer of its definition for every table, number and length, and to write what the definition says and no other word.
  *
- * A set of nodes is a word where node i stands for 2^i. The host of a pid is pid / 67108864, rounded down.
+ * In a set of nodes the bit i is node i. A pid's host is the whole part of pid / 67108864.
  *
  * Each function that takes `answer` writes four words there: kind, first number, second number, reason; numbers that a kind doesn't have are 0. It
  * returns the reason. Where `answer` has fewer than four words nothing is called, nothing is written, and SGROUP_NO_ROOM is returned. */
@@ -67,7 +67,7 @@ enum sgroup_reason {
 bool sgroup_is_sound(const uint64_t *table, size_t table_len);
 
 /* Opens the table for n nodes, 1 to 64, some of them hidden: no s_groups, no connections, each normal node alone in its free group.
- * OK; the table may hold anything before. */
+ * OK; the table may hold anything before. Reasons 1, 2 and 7: ERROR, nothing is written to the table. */
 uint32_t sgroup_open(uint64_t *table, size_t table_len, uint32_t n, uint64_t hidden, uint64_t *answer, size_t answer_len);
 
 /* Registers the pid p under the name n in the s_group s. TRUE. Reasons 8 to 11 and 13: FALSE. */
@@ -102,22 +102,23 @@ uint32_t sgroup_send(uint64_t *table, size_t table_len, uint32_t caller, uint32_
 /* The caller sends to the pid that it finds under n in s, and connects with its host. PID. Reasons 8, 9 and 12: UNDEFINED. */
 uint32_t sgroup_send_name(uint64_t *table, size_t table_len, uint32_t caller, uint32_t s, uint32_t n, uint64_t *answer, size_t answer_len);
 
-/* The caller sends to the pid that `node` finds under n in s, as sgroup_whereis_name_at, and connects with its host. PID. */
+/* The caller sends to the pid that `node` finds under n in s, as sgroup_whereis_name_at, and connects with its host. PID.
+ * Reasons 8, 9 and 12: UNDEFINED. */
 uint32_t sgroup_send_at(uint64_t *table, size_t table_len, uint32_t caller, uint32_t node, uint32_t s, uint32_t n, uint64_t *answer,
                         size_t answer_len);
 
-/* A new s_group s of the nodes in `set`, the caller among them. GROUP. */
+/* A new s_group s of the nodes in `set`, the caller among them. GROUP. Reasons 14 to 16: ERROR. */
 uint32_t sgroup_new_s_group(uint64_t *table, size_t table_len, uint32_t caller, uint32_t s, uint64_t set, uint64_t *answer,
                             size_t answer_len);
 
-/* The nodes of `set` join s. GROUP. */
+/* The nodes of `set` join s. GROUP. Reasons 8 and 9: ERROR. */
 uint32_t sgroup_add_nodes(uint64_t *table, size_t table_len, uint32_t caller, uint32_t s, uint64_t set, uint64_t *answer, size_t answer_len);
 
-/* The members of s that are in `set` leave it; an s_group left empty is deleted. TRUE. */
+/* The members of s that are in `set` leave it; an s_group left empty is deleted. TRUE. Reasons 8 and 9: ERROR. */
 uint32_t sgroup_remove_nodes(uint64_t *table, size_t table_len, uint32_t caller, uint32_t s, uint64_t set, uint64_t *answer,
                              size_t answer_len);
 
-/* The s_group s goes, with its names. TRUE. */
+/* The s_group s goes, with its names. TRUE. Reasons 8 and 9: ERROR. */
 uint32_t sgroup_delete_s_group(uint64_t *table, size_t table_len, uint32_t caller, uint32_t s, uint64_t *answer, size_t answer_len);
 
 /* The nodes of the caller's groups and how many they are. NODES. */

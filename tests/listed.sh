@@ -10,8 +10,10 @@ if [ "$listed" != "$there" ]; then
     diff <(echo "$listed") <(echo "$there")
     bad=1
 fi
-strays=$(find . -path ./target -prune -o -path ./.git -prune -o -path ./crates -prune -o \( -name '*.rt' -o -name '*.antt' \) -print)
-strays+=$(find crates -maxdepth 1 -type f \( -name '*.rt' -o -name '*.antt' \))
+strays=$(
+    find . -path ./target -prune -o -path ./.git -prune -o -path ./crates -prune -o \( -name '*.rt' -o -name '*.antt' \) -print
+    find crates -maxdepth 1 -type f \( -name '*.rt' -o -name '*.antt' \)
+)
 if [ -n "$strays" ]; then
     echo "files of no crate:"
     echo "$strays"

@@ -3,13 +3,20 @@
 set -uo pipefail
 cd "$(dirname "${BASH_SOURCE[0]}")/.."
 bad=0
-if git grep -nIE '/(work|root|home)/' -- ':!tests/plain.sh' ':!LICENSE'; then
-    echo "a path of a machine stands in a file"
-    bad=1
-fi
+
+# Files that have the words, which none should: none WHAT GREP-ARGUMENT..
+none() {
+    local what=$1
+    shift
+    git grep --untracked -nI "$@"
+    case $? in
+        0) echo "$what"; bad=1 ;;
+        1) ;;
+        *) echo "the files cannot be searched"; bad=1 ;;
+    esac
+}
+
+none "a path of a machine stands in a file" -E '/(work|root|home)/' -- ':!tests/plain.sh' ':!LICENSE'
 # 1,220 words in all, and the places 36, 68, 132, 196 of its parts
-if git grep -nIwE '1220|196|132|68|36' -- 'crates/*.rt' 'crates/*.antt' ':!crates/semantics/specs/Sizes.antt'; then
-    echo "a size or a place of the table is spelled outside Sizes.antt"
-    bad=1
-fi
+none "a size or a place of the table is spelled outside Sizes.antt" -wE '1220|196|132|68|36' -- 'crates/*.rt' 'crates/*.antt' ':!crates/semantics/specs/Sizes.antt'
 exit $bad

@@ -85,8 +85,11 @@ prints "a folder as standard input" 1 "$room/empty" folder_input
 full_output() { run examples/stores.script >/dev/full; }
 prints "a full disk" 1 "$room/empty" full_output
 
+no_output() { run examples/stores.script >&-; }
+prints "closed standard output" 1 "$room/empty" no_output
 no_input() { run <&-; }
 prints "closed standard input" 2 "$room/empty" no_input
+prints "an empty name" 2 "$room/empty" run ''
 prints "no such file" 2 "$room/empty" run "$room/none"
 prints "a folder" 2 "$room/empty" run "$room"
 prints "two scripts" 2 "$room/empty" run "$room/empty" "$room/empty"

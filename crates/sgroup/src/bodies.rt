@@ -3,20 +3,9 @@
 use table::NAMES_PER_GROUP;
 ghost use mathlib.Core.Path.{_≡_};
 ghost use Prim.Native.Nat.{_≤_};
-ghost use lib.ListN.{length, replicate};
+ghost use lib.ListN.{length};
 ghost use Rattle.moves.specs.Moves.{put-first, drop-first};
 ghost use Rattle.semantics.specs.Sizes.{names-per-group};
-
-// Every word of the run becomes zero.
-fn clear(run: &mut [u64])
-    ensures { λ _. ⌜ now (run .exit) ≡ replicate (length (now (run .entry))) 0 ⌝ }
-{
-    let mut i = 0;
-    while i < run.len() {
-        run[i] = 0;
-        i += 1;
-    }
-}
 
 // The bodies move up by one, the last falls out, and one of zeros comes first.
 pub fn put_body(run: &mut [u64])
@@ -28,7 +17,7 @@ pub fn put_body(run: &mut [u64])
         i -= 1;
         run[i + NAMES_PER_GROUP] = run[i];
     }
-    clear(&mut run[0..NAMES_PER_GROUP]);
+    moves::clear(&mut run[0..NAMES_PER_GROUP]);
 }
 
 // The first body falls out, the others move down by one, and one of zeros comes last.
@@ -36,11 +25,12 @@ pub fn drop_body(run: &mut [u64])
     requires { ⌜ names-per-group ≤ length (now run) ⌝ }
     ensures { λ _. ⌜ now (run .exit) ≡ drop-first names-per-group (now (run .entry)) ⌝ }
 {
-    let end = run.len() - NAMES_PER_GROUP;
+    let len = run.len();
+    let end = len - NAMES_PER_GROUP;
     let mut i = 0;
     while i < end {
         run[i] = run[i + NAMES_PER_GROUP];
         i += 1;
     }
-    clear(&mut run[end..]);
+    moves::clear(&mut run[end..len]);
 }

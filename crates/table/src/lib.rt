@@ -148,7 +148,7 @@ pub fn open(t: &mut [u64], n: u32, hidden: u64) -> Answer
     if nodes::beyond(hidden, n) {
         return refusal(Reason::NodeUnknown);
     }
-    fresh::clear(t);
+    moves::clear(t);
     t[SIZE_AT] = n as u64;
     t[HIDDEN_AT] = hidden;
     fresh::alone(

@@ -6,5 +6,3 @@ pub mod Exchange
 pub mod Turning
 pub mod Reading
 pub mod Places
-pub mod Zips
-pub mod Pairs

@@ -3,8 +3,8 @@ ghost use mathlib.Core.Path.{_≡_};
 ghost use mathlib.Core.Bool.{cond};
 ghost use Prim.Native.Nat.{_%_};
 ghost use lib.Dec.{eqb};
-ghost use Rattle.nodes.specs.Sets.{has, diff, with-node, union-all};
-ghost use Rattle.semantics.specs.Steps.{mapi, zip-with, interconnect, leave-free, one-free-group, near};
+ghost use Rattle.nodes.specs.Sets.{has, diff};
+ghost use Rattle.semantics.specs.Steps.{mapi, interconnect, leave-free, one-free-group};
 
 // From so many nodes on, a pass over all words is quicker than a walk over the nodes.
 const MANY_NODES: u32 = 56;
@@ -93,38 +93,4 @@ pub fn one_free_group(free: &mut [u64], set: u64)
     ensures { λ r. ⌜ now (free .exit) ≡ one-free-group set (now (free .entry)) ⌝ }
 {
     fill(free, set, set);
-}
-
-// The free group, where its node's connections have a node of the set; else nothing.
-fn near(set: u64, connections: u64, group: u64) -> u64
-    ensures { λ r. ⌜ r ≡ near set connections group ⌝ }
-{
-    if nodes::inter(connections, set) == 0 {
-        0
-    } else {
-        group
-    }
-}
-
-// The nodes of the free groups that have a node connected to one of the set.
-pub fn touched<'a>(links: &'a [u64], free: &'a [u64], set: u64) -> u64
-    ensures { λ r. ⌜ r ≡ union-all (zip-with (near set) (now (links .entry)) (now (free .entry))) ⌝ }
-{
-    let mut all: u64 = 0;
-    let mut i: usize = 0;
-    while i < links.len() {
-        if i == free.len() {
-            return all;
-        }
-        all = all | near(set, links[i], free[i]);
-        i += 1;
-    }
-    all
-}
-
-// The set of the two nodes. A node past 63 is left out.
-pub fn pair(a: u32, b: u32) -> u64
-    ensures { λ r. ⌜ r ≡ with-node (with-node 0 a) b ⌝ }
-{
-    nodes::with(nodes::with(0, a), b)
 }

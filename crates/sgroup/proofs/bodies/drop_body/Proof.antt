@@ -13,27 +13,27 @@ use Rattle.sgroup.proofs.bodies.drop_body.Statement.{statement}
 use Rattle.sgroup.proofs.bodies.drop_body.Tie as tie
 
 -- the last body lent, and put back as zeros
-ends : (a : List ℕ) (i end : ℕ) → i ≡ end → end ≡ length a - names-per-group → names-per-group ≤ length a → (l : List ℕ) → length l ≡ length a
-    → l ≡ down names-per-group a i → (r : List ℕ) → r ≡ replicate (length (take (length l - end) (drop end l))) 0
-    → take end l ++ (r ++ drop (length l - end) (drop end l)) ≡ drop-first names-per-group a
-ends a i end z y h l n e r q =
+ends : (a : List ℕ) (i len end : ℕ) → i ≡ end → len ≡ length a → end ≡ length a - names-per-group → names-per-group ≤ length a → (l : List ℕ) → length l ≡ length a
+    → l ≡ down names-per-group a i → (r : List ℕ) → r ≡ replicate (length (take (len - end) (drop end l))) 0
+    → take end l ++ (r ++ drop (len - end) (drop end l)) ≡ drop-first names-per-group a
+ends a i len end z x y h l n e r q =
     let m : length (drop end l) ≡ names-per-group = length-drop end l ∙ omega arith in
-    let w : length l - end ≡ names-per-group = omega arith in
+    let w : len - end ≡ names-per-group = omega arith in
     rw (q, w, take-all names-per-group (drop end l) (omega arith), m, drop-of-length-le (drop end l) {i = names-per-group} (omega arith), append-nil {A = ℕ} (replicate names-per-group 0), y)
     (down-end names-per-group a h l (e ∙ ap (down names-per-group a) (z ∙ y)))
 
 abbrev Inv-loop : tie.InvT-loop
-Inv-loop run₀ end i₀ run i =
-    (i ≤ end) × (end ≡ length run₀ - names-per-group) × (names-per-group ≤ length run₀) × (length run ≡ length run₀) × (run ≡ down names-per-group run₀ i)
+Inv-loop run₀ len end i₀ run i =
+    (i ≤ end) × (len ≡ length run₀) × (end ≡ length run₀ - names-per-group) × (names-per-group ≤ length run₀) × (length run ≡ length run₀) × (run ≡ down names-per-group run₀ i)
 
 abbrev μ-loop : tie.MeasureT-loop
-μ-loop run₀ end i₀ run i = end - i
+μ-loop run₀ len end i₀ run i = end - i
 
 sub-end : tie.Need-sub-end Inv-loop μ-loop
 sub-end c = search needs
 
 loop-holds : tie.Need-loop-holds Inv-loop μ-loop
-loop-holds c = (omega arith, refl, omega arith, refl, sym (down-none names-per-group (c .before .args .run .now)))
+loop-holds c = (omega arith, refl, refl, omega arith, refl, sym (down-none names-per-group (c .before .args .run .now)))
 
 add-run : tie.Need-add-run Inv-loop μ-loop
 add-run c = search needs
@@ -61,7 +61,7 @@ loop-again c =
     let l = c .before .before in
     let a = l .before .before .args in
     let v = l .loop in
-    (omega arith, v .inv .1, v .inv .2, simp length-set (v .inv .3), down-turn names-per-group (a .run .now) (omega arith) (v .i) (v .run) (omega arith) (v .inv .4))
+    (omega arith, v .inv .1, v .inv .2, v .inv .3, simp length-set (v .inv .4), down-turn names-per-group (a .run .now) (omega arith) (v .i) (v .run) (omega arith) (v .inv .5))
 
 mul-clear : tie.Need-mul-clear Inv-loop μ-loop
 mul-clear c = search needs
@@ -87,7 +87,7 @@ returns c =
     let l = k .before .before .before in
     let a = l .before .before .args in
     let v = l .loop in
-    ends (a .run .now) (v .i) _ (omega arith) (v .inv .1) (v .inv .2) (v .run) (v .inv .3) (v .inv .4) (k .clear .last .0) (k .clear .ensures)
+    ends (a .run .now) (v .i) _ _ (omega arith) (v .inv .1) (v .inv .2) (v .inv .3) (v .run) (v .inv .4) (v .inv .5) (k .clear .last .0) (k .clear .ensures)
 
 pub drop-body-spec : {M : Type 1} → statement M
 drop-body-spec =

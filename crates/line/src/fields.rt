@@ -1,6 +1,5 @@
 // The fields of a line: its parts between single spaces.
 ghost use mathlib.Core.Path.{_≡_};
-ghost use Prim.Native.Nat.{_≤_};
 ghost use lib.ListN.{length};
 ghost use Rattle.line.specs.Text.{fields};
 ghost use Rattle.line.specs.Requests.{field};

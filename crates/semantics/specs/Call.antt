@@ -1,6 +1,6 @@
 -- A call on a table: the length, soundness, then the step; a refusal before the step leaves every word. Assumes nothing.
 use mathlib.Core.Bool.{not, _||_, cond}
-use mathlib.Core.List.{List, [], _∷_, _++_}
+use mathlib.Core.List.{List, [], _++_}
 use Prim.Native.Nat.{ℕ}
 use lib.Dec.{eqb, ltb}
 use lib.ListN.{length, drop}

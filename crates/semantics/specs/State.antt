@@ -1,5 +1,5 @@
 -- The state that a table stands for, as a record that computes: sets of nodes are words, a namespace is a list of entries. Assumes nothing.
-use mathlib.Core.Bool.{Bool, cond}
+use mathlib.Core.Bool.{cond}
 use mathlib.Core.Option.{Option, none, some}
 use mathlib.Core.List.{List, [], _∷_, map}
 use Prim.Native.Nat.{ℕ}

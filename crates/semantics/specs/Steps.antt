@@ -3,7 +3,7 @@
 use mathlib.Core.Bool.{Bool, true, false, not, _&&_, _||_, cond}
 use mathlib.Core.Option.{Option, none, some}
 use mathlib.Core.List.{List, [], _∷_, map}
-use Prim.Native.Nat.{ℕ, suc, _*_, _+_, _^_}
+use Prim.Native.Nat.{ℕ, suc, _*_, _+_}
 use lib.Dec.{eqb, leb, ltb}
 use lib.ListN.{length, replicate}
 use Rattle.nodes.specs.Sets.{node-limit, has, empty, single, union, inter, diff, beyond, count, union-all}

@@ -7,11 +7,10 @@ use native.Mathlib.Omega.{arith}
 use lib.Dec.{lit<}
 use lib.ListN.{length, getD, set, replicate, length-append, length-map}
 use Rattle.namespace.specs.Entries.{words}
-use Rattle.namespace.specs.Storage.{length-words}
 use Rattle.semantics.specs.Sizes.{group-limit, members-at, names-per-group}
 use Rattle.semantics.specs.State.{Group, State, with-groups}
 use Rattle.semantics.specs.Table.{pad, contents, bodies, cat, sections}
-use Rattle.semantics.specs.Bodies.{length-bodies, bodies-append}
+use Rattle.semantics.specs.Bodies.{bodies-append}
 use Rattle.semantics.specs.Sections.{Run, store}
 use Rattle.semantics.specs.Laid.{sizes, Sized, Laid, sizes-of, count-is}
 use Rattle.sgroup.specs.Shifted.{stored-pad}

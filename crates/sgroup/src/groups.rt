@@ -7,8 +7,9 @@ use table::NAMES_PER_GROUP;
 ghost use mathlib.Core.Path.{_≡_};
 ghost use mathlib.Core.List.{List, _∷_, _++_};
 ghost use Prim.Native.Nat.{_≤_, _<_};
-ghost use lib.ListN.{length, getD};
+ghost use lib.ListN.{length};
 ghost use Rattle.semantics.specs.Sizes.{group-limit, names-per-group, table-words};
+ghost use Rattle.semantics.specs.Soundness.{count-of};
 ghost use Rattle.semantics.specs.State.{Group, State, with-groups};
 ghost use Rattle.semantics.specs.Laid.{Laid};
 ghost use Rattle.sgroup.specs.Grouped.{fresh, manned};
@@ -18,8 +19,8 @@ use super::bodies::put_body;
 // A new s_group of no names goes in at the place: the s_groups from there on move up.
 pub fn insert_group(t: &mut [u64], at: usize, s: u32, set: u64)
     requires { ⌜ length (now t) ≡ table-words names-per-group ⌝ }
-    requires { ⌜ getD (now t) 2 0 < group-limit ⌝ }
-    requires { ⌜ at ≤ getD (now t) 2 0 ⌝ }
+    requires { ⌜ count-of (now t) < group-limit ⌝ }
+    requires { ⌜ at ≤ count-of (now t) ⌝ }
     ensures { λ _. ⌜ ((st : State) → Laid names-per-group st (now (t .entry)) → (a b : List Group) → st .groups ≡ a ++ b → length a ≡ at → Laid names-per-group (with-groups (a ++ fresh s set ∷ b) st) (now (t .exit))) ⌝ }
 {
     let count = t[COUNT_AT] as usize;
@@ -34,8 +35,8 @@ pub fn insert_group(t: &mut [u64], at: usize, s: u32, set: u64)
 // The s_group at the place goes, with its names: those after it move down, and zeros follow.
 pub fn delete_group(t: &mut [u64], at: usize)
     requires { ⌜ length (now t) ≡ table-words names-per-group ⌝ }
-    requires { ⌜ getD (now t) 2 0 ≤ group-limit ⌝ }
-    requires { ⌜ at < getD (now t) 2 0 ⌝ }
+    requires { ⌜ count-of (now t) ≤ group-limit ⌝ }
+    requires { ⌜ at < count-of (now t) ⌝ }
     ensures { λ _. ⌜ ((st : State) → Laid names-per-group st (now (t .entry)) → (a b : List Group) (g : Group) → st .groups ≡ a ++ g ∷ b → length a ≡ at → Laid names-per-group (with-groups (a ++ b) st) (now (t .exit))) ⌝ }
 {
     let count = t[COUNT_AT] as usize;

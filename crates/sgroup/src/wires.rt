@@ -8,9 +8,10 @@ use table::MEMBERS_AT;
 use table::SIZE_AT;
 ghost use mathlib.Core.Path.{_≡_};
 ghost use Prim.Native.Nat.{_≤_, _<_};
-ghost use lib.ListN.{length, getD};
+ghost use lib.ListN.{length};
 ghost use Rattle.nodes.specs.Sets.{node-limit};
 ghost use Rattle.semantics.specs.Sizes.{names-per-group, table-words};
+ghost use Rattle.semantics.specs.Soundness.{size-of};
 ghost use Rattle.semantics.specs.State.{State, with-links, with-free};
 ghost use Rattle.semantics.specs.Steps.{interconnect, leave-free, link, merge, connect, become-free};
 ghost use Rattle.semantics.specs.Regular.{Regular};
@@ -28,7 +29,7 @@ pub fn interconnect(t: &mut [u64], set: u64)
 // The nodes of the set leave their free groups together. Nodes past the roster have none.
 pub fn leave_free(t: &mut [u64], set: u64)
     requires { ⌜ length (now t) ≡ table-words names-per-group ⌝ }
-    requires { ⌜ getD (now t) 0 0 ≤ node-limit ⌝ }
+    requires { ⌜ size-of (now t) ≤ node-limit ⌝ }
     ensures { λ _. ⌜ ((st : State) → Laid names-per-group st (now (t .entry)) → Rostered st → Laid names-per-group (with-free (leave-free set (st .free)) st) (now (t .exit))) ⌝ }
 {
     let end = FREE_AT + (t[SIZE_AT] as usize);

@@ -1,15 +1,15 @@
 -- What the test of one s_group's names says, in the clauses of the soundness of a table. Assumes nothing.
-use mathlib.Core.Path.{_≡_, refl, sym, ap, _∙_, subst}
+use mathlib.Core.Path.{_≡_, sym, ap, _∙_, subst}
 use mathlib.Core.Logic.{_↔_, _≢_}
 use mathlib.Core.List.{List}
 use mathlib.Core.Bool.{true}
 use Prim.Native.Nat.{ℕ, _+_, _-_, _*_, _/_, _%_, _≤_, _<_}
 use native.Mathlib.Nat.{add-assoc}
 use native.Mathlib.Omega.{arith}
-use lib.ListN.{length, getD, take, drop, length-drop, List·getD-eq-default}
+use lib.ListN.{length, getD, drop, length-drop, List·getD-eq-default}
 use lib.Seq.{getD-take, getD-drop, length-take-le, ext-getD}
 use Rattle.namespace.specs.Entries.{Entry, half-word, host, word-of, words, entries}
-use Rattle.namespace.specs.Soundness.{Stored, sound-words}
+use Rattle.namespace.specs.Soundness.{Stored}
 use Rattle.namespace.specs.Storage.{length-words, length-entries, word-of-entry, sound-words-iff}
 use Rattle.nodes.specs.Bools.{by-lt}
 use mathlib.Core.Logic.{⊎-elim}

@@ -1,6 +1,6 @@
 -- What opening writes is the table of the opened state. Assumes nothing.
 use mathlib.Core.Path.{_≡_, refl, sym, ap, ap₂, _∙_, subst}
-use mathlib.Core.Bool.{Bool, true, false, not, _&&_, _||_, cond}
+use mathlib.Core.Bool.{Bool, true, false, not, _&&_, cond}
 use mathlib.Core.List.{List, [], _∷_, _++_}
 use Prim.Native.Nat.{ℕ, zero, suc, _+_, _-_, _*_, _≤_, _<_, min}
 use native.Mathlib.Nat.{le-refl}
@@ -8,17 +8,16 @@ use native.Mathlib.Omega.{arith}
 use lib.Dec.{eqb, ltb, lit<}
 use lib.ListN.{length, take, drop, set, replicate, length-append, take-append-drop}
 use borrow.Author.Tests.{eq-eqb, ne-eqb, lt-ltb, le-ltb}
-use Rattle.nodes.specs.Sets.{node-limit, has, single, union, roster, diff, beyond, with-node}
+use Rattle.nodes.specs.Sets.{node-limit, has, single, roster, diff, beyond, with-node}
 use Rattle.nodes.specs.Laws.{has-diff, has-roster, none-union}
 use Rattle.semantics.specs.Sizes.{group-limit, names-per-group, head-words, free-at, bodies-at, table-words}
 use Rattle.semantics.specs.Commands.{answer-of}
 use Rattle.semantics.specs.Steps.{mapi, each-alone, opened}
 use Rattle.semantics.specs.Table.{cat, sections, layout}
-use Rattle.semantics.specs.Call.{Call, refused, opening}
+use Rattle.semantics.specs.Call.{refused, opening}
 use Rattle.semantics.specs.Sections.{Run, store, lent}
 use Rattle.semantics.specs.Laid.{sizes}
-use Rattle.semantics.specs.declared.Answer.{Answer}
-use Rattle.semantics.specs.declared.Value.the-variants.{Ok, Error}
+use Rattle.semantics.specs.declared.Value.the-variants.{Ok}
 use Rattle.semantics.specs.declared.Reason.the-variants.{Done, TableLength, RosterSize, NodeUnknown}
 
 -- ---- each node alone

@@ -1,21 +1,20 @@
 -- The test, part by part, says the clauses of the soundness of a table, and the clauses say that every part of the test passes. Assumes nothing.
-use mathlib.Core.Path.{_≡_, refl, sym, ap, _∙_, subst}
+use mathlib.Core.Path.{_≡_, sym, ap, _∙_}
 use mathlib.Core.Logic.{_↔_, _≢_, ⊎-elim}
-use mathlib.Core.Bool.{Bool, true, false, not, _&&_, and-eq-true-iff, true≢false}
+use mathlib.Core.Bool.{true, false, not, and-eq-true-iff, true≢false}
 use mathlib.Core.List.{List}
-use Prim.Native.Nat.{ℕ, zero, suc, _+_, _-_, _*_, _/_, _%_, _^_, _≤_, _<_}
+use Prim.Native.Nat.{ℕ, zero, suc, _+_, _-_, _*_, _/_, _%_, _≤_, _<_}
 use native.Mathlib.Nat.{eq-or-lt-of-le, le-of-suc-le-suc, not-suc-le-zero}
 use native.Mathlib.Omega.{arith}
-use lib.Dec.{eqb, leb, ltb}
 use lib.ListN.{length, getD, take, drop, length-drop}
 use lib.Seq.{getD-take, getD-drop, length-take-le}
-use borrow.Author.Tests.{eqb-true, eq-eqb, ne-eqb, ltb-true, lt-ltb, leb-true, le-leb, not-true}
-use Rattle.nodes.specs.Sets.{node-limit, has, empty, roster, diff, beyond, union-all, word-at}
-use Rattle.nodes.specs.Laws.{has-diff, has-roster, has-none, below-pow, union-all-in, union-all-out}
+use borrow.Author.Tests.{eqb-true, eq-eqb, ltb-true, lt-ltb, not-true}
+use Rattle.nodes.specs.Sets.{node-limit, has, empty, roster, diff, union-all, word-at}
+use Rattle.nodes.specs.Laws.{has-diff, has-roster, below-pow, union-all-in, union-all-out}
 use Rattle.semantics.specs.Sizes.{group-limit, names-per-group, contents-at, members-at, links-at, free-at, bodies-at, table-words}
-use Rattle.semantics.specs.Soundness.{word, size-of, hidden-of, count-of, contents-of, name-of, names-of, members-of, links-of, free-of, entry-of, In, On-roster, Free-normal, Sound}
+use Rattle.semantics.specs.Soundness.{word, size-of, hidden-of, count-of, name-of, members-of, links-of, free-of, entry-of, In, Free-normal, Sound}
 use Rattle.semantics.specs.Truth.{unless}
-use Rattle.wiring.specs.Tests.{all-below, all-zero, links-sound, members-met, free-sound}
+use Rattle.wiring.specs.Tests.{all-below, all-zero, links-sound, free-sound}
 use Rattle.wiring.specs.Below.{tests, below-iff, within-iff}
 use Rattle.wiring.specs.Reading.{Sound-links, Sound-free, links-sound-iff, members-met-iff, free-sound-iff}
 use Rattle.table.specs.Tests.{name-before, contents-right, members-right, part, members-part, links-part, free-part, met-right, names-right, head-right, unused-zero}

@@ -10,7 +10,7 @@ use lib.ListN.{length, getD, length-set, length-append, length-map}
 use Rattle.namespace.specs.Entries.{words}
 use Rattle.namespace.specs.Storage.{length-words}
 use Rattle.semantics.specs.Sizes.{group-limit, names-per-group, contents-at, members-at, bodies-at}
-use Rattle.semantics.specs.Table.{pad, contents, bodies, sections}
+use Rattle.semantics.specs.Table.{contents, bodies, sections}
 use Rattle.semantics.specs.Bodies.{length-bodies, bodies-append}
 use Rattle.semantics.specs.Sections.{store}
 use Rattle.semantics.specs.Laid.{count-is}

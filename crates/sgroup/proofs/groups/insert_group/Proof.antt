@@ -8,7 +8,7 @@ use Prim.Native.Nat.{ℕ, _+_, _*_}
 use lib.Dec.{lit<}
 use lib.ListN.{length, getD, length-set, length-append, length-map}
 use Rattle.semantics.specs.Sizes.{group-limit, names-per-group, contents-at, members-at, bodies-at}
-use Rattle.semantics.specs.Table.{pad, contents, bodies, sections}
+use Rattle.semantics.specs.Table.{contents, bodies, sections}
 use Rattle.semantics.specs.Bodies.{length-bodies, bodies-append}
 use Rattle.semantics.specs.Sections.{store}
 use Rattle.semantics.specs.Laid.{count-is}

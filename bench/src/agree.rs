@@ -4,118 +4,52 @@ use crate::api::{Api, PLAIN, PLAIN_UNTESTED, PROVED, PROVED_UNTESTED};
 use crate::call::{calls, Asked, Lent, Which};
 use compare::case::Case;
 use compare::random::{Kind, Walk, STEPS};
-use model::command::{Command, Request};
+use model::command::{Form, Request};
 use model::state::word_of;
 
-/// The request as a call.
+/// The command of a form.
+fn which(form: Form) -> Which {
+    match form {
+        Form::RegisterName => Which::RegisterName,
+        Form::ReRegisterName => Which::ReRegisterName,
+        Form::UnregisterName => Which::UnregisterName,
+        Form::RegisteredNames => Which::RegisteredNames,
+        Form::WhereisName => Which::WhereisName,
+        Form::WhereisNameAt => Which::WhereisNameAt,
+        Form::SendPid => Which::Send,
+        Form::SendName => Which::SendName,
+        Form::SendNameAt => Which::SendAt,
+        Form::NewSGroup => Which::NewSGroup,
+        Form::AddNodes => Which::AddNodes,
+        Form::RemoveNodes => Which::RemoveNodes,
+        Form::DeleteSGroup => Which::DeleteSGroup,
+        Form::OwnNodes => Which::OwnNodes,
+        Form::OwnSGroups => Which::OwnSGroups,
+    }
+}
+
+/// The request as a call; an argument that the command does not take is 0.
 fn call_of(request: &Request) -> (Which, Asked) {
-    let none = Asked::default();
     match request {
         Request::Open { n, hidden } => (
             Which::Open,
             Asked {
                 n: *n,
                 set: word_of(hidden),
-                ..none
+                ..Asked::default()
             },
         ),
-        Request::Call { caller, command } => {
-            let none = Asked {
+        Request::Call { caller, command } => (
+            which(command.form()),
+            Asked {
                 caller: *caller,
-                ..none
-            };
-            match command {
-                Command::RegisterName { s, n, p } => (
-                    Which::RegisterName,
-                    Asked {
-                        s: *s,
-                        n: *n,
-                        p: *p,
-                        ..none
-                    },
-                ),
-                Command::ReRegisterName { s, n, p } => (
-                    Which::ReRegisterName,
-                    Asked {
-                        s: *s,
-                        n: *n,
-                        p: *p,
-                        ..none
-                    },
-                ),
-                Command::UnregisterName { s, n } => (
-                    Which::UnregisterName,
-                    Asked {
-                        s: *s,
-                        n: *n,
-                        ..none
-                    },
-                ),
-                Command::RegisteredNames { s } => (Which::RegisteredNames, Asked { s: *s, ..none }),
-                Command::WhereisName { s, n } => (
-                    Which::WhereisName,
-                    Asked {
-                        s: *s,
-                        n: *n,
-                        ..none
-                    },
-                ),
-                Command::WhereisNameAt { at, s, n } => (
-                    Which::WhereisNameAt,
-                    Asked {
-                        node: *at,
-                        s: *s,
-                        n: *n,
-                        ..none
-                    },
-                ),
-                Command::SendPid { p } => (Which::Send, Asked { p: *p, ..none }),
-                Command::SendName { s, n } => (
-                    Which::SendName,
-                    Asked {
-                        s: *s,
-                        n: *n,
-                        ..none
-                    },
-                ),
-                Command::SendNameAt { at, s, n } => (
-                    Which::SendAt,
-                    Asked {
-                        node: *at,
-                        s: *s,
-                        n: *n,
-                        ..none
-                    },
-                ),
-                Command::NewSGroup { s, set } => (
-                    Which::NewSGroup,
-                    Asked {
-                        s: *s,
-                        set: word_of(set),
-                        ..none
-                    },
-                ),
-                Command::AddNodes { s, set } => (
-                    Which::AddNodes,
-                    Asked {
-                        s: *s,
-                        set: word_of(set),
-                        ..none
-                    },
-                ),
-                Command::RemoveNodes { s, set } => (
-                    Which::RemoveNodes,
-                    Asked {
-                        s: *s,
-                        set: word_of(set),
-                        ..none
-                    },
-                ),
-                Command::DeleteSGroup { s } => (Which::DeleteSGroup, Asked { s: *s, ..none }),
-                Command::OwnNodes => (Which::OwnNodes, none),
-                Command::OwnSGroups => (Which::OwnSGroups, none),
-            }
-        }
+                node: command.asked_node().unwrap_or(0),
+                s: command.s_group().unwrap_or(0),
+                n: command.process_name().unwrap_or(0),
+                p: command.pid().unwrap_or(0),
+                set: command.set().map_or(0, word_of),
+            },
+        ),
     }
 }
 

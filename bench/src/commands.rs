@@ -19,7 +19,17 @@ const TEST_ROUNDS: usize = 4000;
 /// Tests in a turn, and turns.
 const TESTS: usize = 4;
 const TURNS: usize = 5;
+/// Calls where all are the same.
+const SAME_CALLS: usize = 64 * TURN;
+/// The ratio that a row is to stay within; the test of a small table has one of its own.
+const BAR: f64 = 1.5;
+const SMALL_TEST_BAR: f64 = 2.0;
 const PIDS_PER_HOST: u64 = 1 << 26;
+
+/// The proved side and the plain one.
+type Sides = [&'static Api; 2];
+const TESTED: Sides = [&PROVED, &PLAIN];
+const UNTESTED: Sides = [&PROVED_UNTESTED, &PLAIN_UNTESTED];
 
 fn pick(prng: &mut Prng, set: u64) -> u32 {
     let mut left = set;
@@ -64,13 +74,12 @@ pub fn main_cases(prng: &mut Prng, which: Which, words: &[u64], calls: usize) ->
 }
 
 /// Nanoseconds a call of two sides. Every call finds the table as it was; the time of an empty turn is subtracted.
-fn timed(ours: &Api, theirs: &Api, which: Which, words: &[u64], asked: &[Asked]) -> (f64, f64) {
-    let apis = [ours, theirs];
+fn timed(sides: Sides, which: Which, words: &[u64], asked: &[Asked]) -> (f64, f64) {
     let lent = std::cell::RefCell::new(vec![Lent::new(words); TURN]);
     let turns = asked.len() / TURN;
     let turn = |k: usize| &asked[k * TURN..][..TURN];
     for k in 0..turns {
-        let outcome = apis.map(|api| {
+        let outcome = sides.map(|api| {
             let mut lent = vec![Lent::new(words); TURN];
             (calls(api, which, &mut lent, turn(k)), lent)
         });
@@ -94,7 +103,7 @@ fn timed(ours: &Api, theirs: &Api, which: Which, words: &[u64], asked: &[Asked])
                 .iter_mut()
                 .for_each(|own| own.restore(words))
         },
-        |side, k| match apis.get(side) {
+        |side, k| match sides.get(side) {
             Some(api) => calls(api, which, &mut lent.borrow_mut(), turn(k)),
             None => no_calls(&mut lent.borrow_mut(), turn(k)),
         },
@@ -104,7 +113,6 @@ fn timed(ours: &Api, theirs: &Api, which: Which, words: &[u64], asked: &[Asked])
 }
 
 fn test_timed(tables: &[Vec<u64>]) -> (f64, f64) {
-    let apis = [&PROVED, &PLAIN];
     let [ours, theirs] = race(
         TEST_ROUNDS,
         TURNS,
@@ -113,7 +121,7 @@ fn test_timed(tables: &[Vec<u64>]) -> (f64, f64) {
             let all = tables.iter().cycle().take(TESTS);
             let sound: u64 = all
                 .map(|words| {
-                    u64::from(unsafe { (apis[side].is_sound)(words.as_ptr(), words.len()) })
+                    u64::from(unsafe { (TESTED[side].is_sound)(words.as_ptr(), words.len()) })
                 })
                 .sum();
             assert_eq!(sound as usize, TESTS);
@@ -149,121 +157,110 @@ fn roomy(size: Size) -> Size {
     }
 }
 
+/// The test, each command on both sizes of table, the calls that move most free nodes, and opening: a table each.
 pub fn times(seed: u64) {
     let mut prng = Prng::new(seed);
+    tests(&mut prng);
+    for (what, size) in [("full table", FULL), ("small table", SMALL)] {
+        heading(&format!("{what}, with the test"));
+        commands(&mut prng, size, TESTED, TESTED_CALLS);
+        heading(&format!("{what}, without the test"));
+        commands(&mut prng, size, UNTESTED, CALLS);
+    }
+    free_nodes();
+    opening(&mut prng);
+}
+
+/// The test on random tables of both sizes, and on three that are chosen.
+fn tests(prng: &mut Prng) {
     heading("the soundness test");
-    for (what, size, bar) in [("full table", FULL, 1.5), ("small table", SMALL, 2.0)] {
-        let tables: Vec<Vec<u64>> = (0..2).map(|_| table(&mut prng, size)).collect();
+    for (what, size, bar) in [
+        ("full table", FULL, BAR),
+        ("small table", SMALL, SMALL_TEST_BAR),
+    ] {
+        let tables: Vec<Vec<u64>> = (0..2).map(|_| table(prng, size)).collect();
         row(what, test_timed(&tables), bar);
     }
-    row(
-        "full, one number on every host",
-        test_timed(&[full_with(&mut prng, |group, _| 1 + group)]),
-        1.5,
-    );
-    row(
-        "full, each namespace of one mark",
-        test_timed(&[full_with(&mut prng, |_, k| 40_960 - 32 * k)]),
-        1.5,
-    );
-    row(
-        "64 free nodes in two groups",
-        test_timed(&[halves(false, false)]),
-        1.5,
-    );
-    for (what, size) in [("full table", FULL), ("small table", SMALL)] {
-        let sides = [
-            ("with the test", &PROVED, &PLAIN, TESTED_CALLS),
-            ("without the test", &PROVED_UNTESTED, &PLAIN_UNTESTED, CALLS),
-        ];
-        for (tested, ours, theirs, many) in sides {
-            heading(&format!("{what}, {tested}"));
-            for which in Which::COMMANDS {
-                let grows = matches!(which, Which::RegisterName | Which::NewSGroup);
-                let words = table(&mut prng, if grows { roomy(size) } else { size });
-                let asked = main_cases(&mut prng, which, &words, many);
-                row(
-                    &format!("{which:?}"),
-                    timed(ours, theirs, which, &words, &asked),
-                    1.5,
-                );
-            }
-        }
+    let one_number = full_with(prng, |group, _| 1 + group);
+    let one_mark = full_with(prng, |_, k| 40_960 - 32 * k);
+    for (what, words) in [
+        ("full, one number on every host", one_number),
+        ("full, each namespace of one mark", one_mark),
+        ("64 free nodes in two groups", halves(false, false)),
+    ] {
+        row(what, test_timed(&[words]), BAR);
     }
+}
+
+/// So many calls of each command on a table of this size.
+fn commands(prng: &mut Prng, size: Size, sides: Sides, many: usize) {
+    for which in Which::COMMANDS {
+        let grows = matches!(which, Which::RegisterName | Which::NewSGroup);
+        let words = table(prng, if grows { roomy(size) } else { size });
+        let asked = main_cases(prng, which, &words, many);
+        row(
+            &format!("{which:?}"),
+            timed(sides, which, &words, &asked),
+            BAR,
+        );
+    }
+}
+
+fn free_nodes() {
     heading("32 of 64 free nodes, without the test");
     for (what, which, words, one) in free_rows() {
         row(
             what,
-            timed(
-                &PROVED_UNTESTED,
-                &PLAIN_UNTESTED,
-                which,
-                &words,
-                &[one; 64 * TURN],
-            ),
-            1.5,
+            timed(UNTESTED, which, &words, &[one; SAME_CALLS]),
+            BAR,
         );
     }
+}
+
+fn opening(prng: &mut Prng) {
     heading("opening 64 nodes");
-    let any = table(&mut prng, FULL);
+    let any = table(prng, FULL);
+    let one = Asked {
+        n: 64,
+        set: 5,
+        ..Asked::default()
+    };
     row(
         "Open",
-        timed(
-            &PROVED,
-            &PLAIN,
-            Which::Open,
-            &any,
-            &[Asked {
-                n: 64,
-                set: 5,
-                ..Asked::default()
-            }; 64 * TURN],
-        ),
-        1.5,
+        timed(TESTED, Which::Open, &any, &[one; SAME_CALLS]),
+        BAR,
     );
 }
 
 /// The calls that move most free nodes.
 pub fn free_rows() -> [(&'static str, Which, Vec<u64>, Asked); 5] {
-    let low = u64::from(u32::MAX);
     let none = Asked::default();
+    let on = |s: u32, set: u64| Asked { s, set, ..none };
     let far = (40 * PIDS_PER_HOST) as u32;
     [
         (
             "NewSGroup of half a free group",
             Which::NewSGroup,
             halves(false, true),
-            Asked {
-                s: 9,
-                set: low,
-                ..none
-            },
+            on(9, u64::from(u32::MAX)),
         ),
         (
             "AddNodes of 16 free nodes",
             Which::AddNodes,
             halves(true, false),
-            Asked {
-                s: 3,
-                set: 0xffff << 32,
-                ..none
-            },
+            on(3, 0xffff << 32),
         ),
         (
             "DeleteSGroup that joins two halves",
             Which::DeleteSGroup,
             halves(true, true),
-            Asked { s: 3, ..none },
+            on(3, 0),
         ),
         (
             "RemoveNodes that joins 16 and 32",
             Which::RemoveNodes,
             halves(true, true),
-            Asked {
-                s: 3,
-                set: 0xffff,
-                ..none
-            },
+            on(3, 0xffff),
         ),
         (
             "Send that joins two halves",
@@ -279,7 +276,7 @@ pub fn growth(seed: u64) {
     let mut prng = Prng::new(seed);
     let mut one = |what: String, size: Size| {
         let words = table(&mut prng, size);
-        row(&what, test_timed(&[words]), 1.5);
+        row(&what, test_timed(&[words]), BAR);
     };
     heading("the test as the roster grows");
     for nodes in [4, 8, 16, 32, 64] {

@@ -1,6 +1,6 @@
 //! Times the proved library against plain Rust written for speed, in one run, and prints the ratios: `bench SEED [PROGRAM WORD..]`. First both are held to
-//! the same answers and words on random calls. Needs target/native/libnamespace_c.a and libsgroup_c.a; `bench/run` builds them, and gives the words that
-//! run the script program.
+//! the same answers and words on random calls and namespaces, and to the same lines on the scripts; `bench agree SEED [PROGRAM WORD..]` does that alone.
+//! Needs target/native/libnamespace_c.a and libsgroup_c.a; `bench/run` builds them, and gives the words that run the script program.
 
 mod agree;
 mod api;
@@ -13,27 +13,63 @@ mod scripts;
 mod stack;
 mod tables;
 
-/// Walks of random calls before anything is timed.
+/// Walks of random calls on which both sides agree.
 const WALKS: u64 = 200;
 
+/// The word by which both sides are only held to the same, and nothing is timed.
+const AGREE: &str = "agree";
+
 fn main() {
-    let mut arguments = std::env::args().skip(1);
-    let word = arguments.next();
-    if word.as_deref() == Some(scripts::PLAIN) {
-        return scripts::run_plain();
+    let arguments: Vec<String> = std::env::args().skip(1).collect();
+    match arguments.as_slice() {
+        [word] if word == scripts::PLAIN => scripts::run_plain(),
+        [word, seed, program @ ..] if word == AGREE => agree_only(number(seed), program),
+        [seed, program @ ..] => times(number(seed), program),
+        [] => usage(),
     }
-    let seed = word.and_then(|word| word.parse().ok());
-    let seed = seed.expect("usage: bench SEED [PROGRAM WORD..]");
-    let program: Vec<String> = arguments.collect();
+}
+
+fn number(seed: &str) -> u64 {
+    seed.parse().unwrap_or_else(|_| usage())
+}
+
+fn usage() -> ! {
+    eprintln!("usage: bench [agree] SEED [PROGRAM WORD..]");
+    std::process::exit(2)
+}
+
+/// The seed, and that both sides do the same on random calls.
+fn agree_on_calls(seed: u64) {
     println!("seed {seed}");
     let cases = agree::agree(seed, WALKS);
     println!("{cases} random calls: the same answers and words");
+}
+
+fn agree_on_namespaces(seed: u64) {
+    let spaces = namespaces::agree(seed);
+    println!("{spaces} random namespaces: the same answers and words");
+}
+
+/// Holds both sides to the same; the scripts where the program is given.
+fn agree_only(seed: u64, program: &[String]) {
+    agree_on_calls(seed);
+    agree_on_namespaces(seed);
+    if !program.is_empty() {
+        let scripts = scripts::agree(seed, program);
+        println!("{scripts} scripts: the same lines");
+    }
+}
+
+/// Every table, each once both sides agree.
+fn times(seed: u64, program: &[String]) {
+    agree_on_calls(seed);
     commands::times(seed);
     commands::growth(seed);
     stack::depths(seed);
     println!("\nnamespaces");
+    agree_on_namespaces(seed);
     namespaces::times(seed);
     if !program.is_empty() {
-        scripts::times(seed, &program);
+        scripts::times(seed, program);
     }
 }

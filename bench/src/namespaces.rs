@@ -1,9 +1,9 @@
-//! Namespaces: the proved functions against plain Rust, on 4, 32 and 128 names. First both are held to the same answers on random namespaces, sound and
-//! unsound.
+//! Namespaces: the proved functions against plain Rust, on 4, 32 and 128 names. Both are held to the same answers and words on random namespaces, sound
+//! and unsound.
 
 use crate::plain::namespace as plain;
+use crate::race::race;
 use std::hint::black_box;
-use std::time::Instant;
 
 extern "C" {
     fn namespace_find(ns: *const u64, len: usize, count: usize, name: u32) -> u64;
@@ -30,6 +30,12 @@ fn is_sound(ns: &[u64], count: usize, size: u32) -> bool {
 
 const HOSTS: u64 = 64;
 const PIDS_PER_HOST: u64 = 1 << 26;
+/// Random namespaces on which both sides agree.
+const AGREED: usize = 200_000;
+/// Calls of a row, the namespaces that they go to, and rounds of them.
+const CALLS: usize = 4096;
+const SPACES: usize = 64;
+const ROUNDS: usize = 200;
 
 /// A small generator with a printed seed.
 struct Random(u64);
@@ -79,183 +85,194 @@ fn spoiled(r: &mut Random, words: &mut [u64], count: &mut usize) {
     }
 }
 
-fn agree(r: &mut Random) {
-    for round in 0..200_000 {
-        let cap = 1 + r.below(130) as usize;
-        let mut count = r.below(cap as u64 + 1) as usize;
-        let mut words = namespace(r, cap, count);
-        if round % 2 == 1 {
-            spoiled(r, &mut words, &mut count);
-        }
-        let size = if round % 5 == 0 {
-            r.below(70) as u32
-        } else {
-            64
-        };
+/// A namespace, its count and the size of the roster; every other one is spoiled.
+fn drawn(r: &mut Random, round: usize) -> (Vec<u64>, usize, u32) {
+    let cap = 1 + r.below(130) as usize;
+    let mut count = r.below(cap as u64 + 1) as usize;
+    let mut words = namespace(r, cap, count);
+    if round % 2 == 1 {
+        spoiled(r, &mut words, &mut count);
+    }
+    let size = if round % 5 == 0 {
+        r.below(70) as u32
+    } else {
+        64
+    };
+    (words, count, size)
+}
+
+/// Holds both sides to the same answers and words for a name on a sound namespace; it is added where it is not there.
+fn agree_on(words: &[u64], count: usize, name: u32) {
+    let found = plain::find(words, count, name);
+    assert_eq!(
+        found,
+        find(words, count, name),
+        "find {words:?} {count} {name}"
+    );
+    let (mut a, mut b) = (words.to_vec(), words.to_vec());
+    assert_eq!(
+        plain::drop_name(&mut a, count, name),
+        drop_name(&mut b, count, name),
+        "drop {words:?} {count} {name}"
+    );
+    assert_eq!(a, b, "drop {words:?} {count} {name}");
+    if found == plain::ABSENT {
+        let (mut a, mut b) = (words.to_vec(), words.to_vec());
+        assert_eq!(
+            plain::add(&mut a, count, name, 7),
+            add(&mut b, count, name, 7),
+            "add {words:?} {count} {name}"
+        );
+        assert_eq!(a, b, "add {words:?} {count} {name}");
+    }
+}
+
+/// Holds both sides to the same answers and words on random namespaces; how many there were.
+pub fn agree(seed: u64) -> usize {
+    let mut r = Random(seed | 1);
+    for round in 0..AGREED {
+        let (words, count, size) = drawn(&mut r, round);
         let sound = plain::is_sound(&words, count, size);
         assert_eq!(
             sound,
             is_sound(&words, count, size),
             "is_sound {words:?} {count} {size}"
         );
-        if !sound {
-            continue;
+        if sound {
+            let at = r.below(words.len() as u64) as usize;
+            let name = (words[at] >> 32) as u32 + (r.below(3) == 0) as u32;
+            agree_on(&words, count, name);
         }
-        let at = r.below(cap as u64) as usize;
-        let name = (words[at] >> 32) as u32 + (r.below(3) == 0) as u32;
-        assert_eq!(
-            plain::find(&words, count, name),
-            find(&words, count, name),
-            "find {words:?} {count} {name}"
-        );
-        let (mut a, mut b) = (words.clone(), words.clone());
-        assert_eq!(
-            plain::drop_name(&mut a, count, name),
-            drop_name(&mut b, count, name),
-            "drop {words:?} {count} {name}"
-        );
-        assert_eq!(a, b, "drop {words:?} {count} {name}");
-        if plain::find(&words, count, name) == plain::ABSENT {
-            let (mut a, mut b) = (words.clone(), words.clone());
-            assert_eq!(
-                plain::add(&mut a, count, name, 7),
-                add(&mut b, count, name, 7),
-                "add {words:?} {count} {name}"
-            );
-            assert_eq!(a, b, "add {words:?} {count} {name}");
-        }
+    }
+    AGREED
+}
+
+/// Namespaces of one count, and calls: on which of them, and the name that is asked for.
+struct Asked {
+    spaces: Vec<Vec<u64>>,
+    count: usize,
+    calls: Vec<(usize, u32)>,
+}
+
+/// As many namespaces as the calls of a row go to.
+fn spaces(r: &mut Random, cap: usize, count: usize) -> Vec<Vec<u64>> {
+    (0..SPACES).map(|_| namespace(r, cap, count)).collect()
+}
+
+/// Calls on namespaces of this count, each for a name that is made of a held one.
+fn asked(r: &mut Random, cap: usize, count: usize, name: fn(&mut Random, u32) -> u32) -> Asked {
+    let spaces = spaces(r, cap, count);
+    let mut one = || {
+        let s = r.below(SPACES as u64) as usize;
+        let held = (spaces[s][r.below(count as u64) as usize] >> 32) as u32;
+        (s, name(r, held))
+    };
+    let calls = (0..CALLS).map(|_| one()).collect();
+    Asked {
+        spaces,
+        count,
+        calls,
     }
 }
 
-const CALLS: usize = 4096;
-const ROUNDS: usize = 200;
+/// Nanoseconds a call of each side, where one turn makes all calls.
+fn sides<const SIDES: usize>(mut turn: impl FnMut(usize) -> u64) -> [f64; SIDES] {
+    race(ROUNDS, 1, |_| {}, |side, _| turn(side)).map(|all| all / CALLS as f64)
+}
 
-/// Nanoseconds a call: the best of many rounds, ours and theirs by turns.
-fn race(mut ours: impl FnMut() -> u64, mut theirs: impl FnMut() -> u64) -> (f64, f64) {
-    let mut best = (f64::MAX, f64::MAX);
-    for _ in 0..ROUNDS {
-        let t = Instant::now();
-        black_box(ours());
-        best.0 = best.0.min(t.elapsed().as_nanos() as f64 / CALLS as f64);
-        let t = Instant::now();
-        black_box(theirs());
-        best.1 = best.1.min(t.elapsed().as_nanos() as f64 / CALLS as f64);
+/// All calls of a function that only reads.
+#[inline(always)]
+fn reads(asked: &Asked, call: impl Fn(&[u64], usize, u32) -> u64) -> u64 {
+    let all = asked.calls.iter();
+    all.fold(0, |a, (s, name)| {
+        a ^ call(&asked.spaces[*s], asked.count, *name)
+    })
+}
+
+/// All calls of a function that writes, each on the namespace as it was.
+#[inline(always)]
+fn writes(asked: &Asked, work: &mut [u64], call: impl Fn(&mut [u64], usize, u32) -> u32) -> u64 {
+    let mut sum = 0;
+    for (s, name) in &asked.calls {
+        work.copy_from_slice(&asked.spaces[*s]);
+        black_box(&mut *work);
+        sum += u64::from(call(work, asked.count, *name));
     }
-    best
+    sum
 }
 
-fn row(what: &str, n: usize, (ours, theirs): (f64, f64), base: f64) {
-    let (o, t) = (ours - base, theirs - base);
-    println!("{what:<10} {n:>4} {o:>10.1} {t:>10.1} {:>7.2}", o / t);
+/// As many tests, all of sound namespaces.
+#[inline(always)]
+fn tests(spaces: &[Vec<u64>], count: usize, test: impl Fn(&[u64], usize, u32) -> bool) -> u64 {
+    let sound = (0..CALLS)
+        .map(|k| u64::from(test(&spaces[k % SPACES], count, 64)))
+        .sum();
+    assert_eq!(sound, CALLS as u64);
+    sound
 }
 
+fn find_timed(asked: &Asked) -> (f64, f64) {
+    let [ours, theirs] = sides(|side| match side {
+        0 => reads(asked, find),
+        _ => reads(asked, plain::find),
+    });
+    (ours, theirs)
+}
+
+/// The time to put the words back is subtracted.
+fn add_timed(asked: &Asked) -> (f64, f64) {
+    let mut work = asked.spaces[0].clone();
+    let [ours, theirs, empty] = sides(|side| match side {
+        0 => writes(asked, &mut work, |w, count, name| add(w, count, name, 77)),
+        1 => writes(asked, &mut work, |w, count, name| {
+            plain::add(w, count, name, 77)
+        }),
+        _ => writes(asked, &mut work, |_, _, name| name),
+    });
+    (ours - empty, theirs - empty)
+}
+
+/// The time to put the words back is subtracted.
+fn drop_timed(asked: &Asked) -> (f64, f64) {
+    let mut work = asked.spaces[0].clone();
+    let [ours, theirs, empty] = sides(|side| match side {
+        0 => writes(asked, &mut work, drop_name),
+        1 => writes(asked, &mut work, plain::drop_name),
+        _ => writes(asked, &mut work, |_, _, name| name),
+    });
+    (ours - empty, theirs - empty)
+}
+
+fn test_timed(spaces: &[Vec<u64>], count: usize) -> (f64, f64) {
+    let [ours, theirs] = sides(|side| match side {
+        0 => tests(spaces, count, is_sound),
+        _ => tests(spaces, count, plain::is_sound),
+    });
+    (ours, theirs)
+}
+
+fn row(what: &str, n: usize, (ours, theirs): (f64, f64)) {
+    println!(
+        "{what:<10} {n:>4} {ours:>10.1} {theirs:>10.1} {:>7.2}",
+        ours / theirs
+    );
+}
+
+/// Each function on full namespaces, on those with room for one more, and the test on those with a quarter of the names.
 pub fn times(seed: u64) {
     let mut r = Random(seed | 1);
-    agree(&mut r);
-    println!("200000 random namespaces: the same answers and words");
     println!(
         "{:<10} {:>4} {:>10} {:>10} {:>7}",
         "function", "n", "proved ns", "plain ns", "ratio"
     );
     for n in [4, 32, 128] {
-        let full: Vec<Vec<u64>> = (0..64).map(|_| namespace(&mut r, n, n)).collect();
-        let held: Vec<(usize, u32)> = (0..CALLS)
-            .map(|_| {
-                let s = r.below(64) as usize;
-                (s, (full[s][r.below(n as u64) as usize] >> 32) as u32)
-            })
-            .collect();
-        let run = |f: fn(&[u64], usize, u32) -> u64| {
-            held.iter().fold(0, |a, &(s, x)| a ^ f(&full[s], n, x))
-        };
-        row("find", n, race(|| run(find), || run(plain::find)), 0.0);
-
-        let free: Vec<Vec<u64>> = (0..64).map(|_| namespace(&mut r, n, n - 1)).collect();
-        let new: Vec<(usize, u32)> = (0..CALLS)
-            .map(|_| {
-                let s = r.below(64) as usize;
-                (
-                    s,
-                    (free[s][r.below(n as u64 - 1) as usize] >> 32) as u32 - r.below(2) as u32 * 2
-                        + 1,
-                )
-            })
-            .collect();
-        let mut work = vec![0; n];
-        let copies = |w: &mut Vec<u64>| {
-            let mut best = f64::MAX;
-            for _ in 0..ROUNDS {
-                let t = Instant::now();
-                for &(s, _) in &new {
-                    w.copy_from_slice(&free[s]);
-                    black_box(&mut *w);
-                }
-                best = best.min(t.elapsed().as_nanos() as f64 / CALLS as f64);
-            }
-            best
-        };
-        let base = copies(&mut work);
-        let (mut a, mut b) = (work.clone(), work.clone());
-        let adds = |w: &mut Vec<u64>, f: fn(&mut [u64], usize, u32, u32) -> u32| {
-            let mut sum = 0;
-            for &(s, x) in &new {
-                w.copy_from_slice(&free[s]);
-                black_box(&mut *w);
-                sum += f(w, n - 1, x, 77) as u64;
-            }
-            sum
-        };
-        row(
-            "add",
-            n,
-            race(|| adds(&mut a, add), || adds(&mut b, plain::add)),
-            base,
-        );
-        let drops = |w: &mut Vec<u64>, f: fn(&mut [u64], usize, u32) -> u32| {
-            let mut sum = 0;
-            for &(s, x) in &held {
-                w.copy_from_slice(&full[s]);
-                black_box(&mut *w);
-                sum += f(w, n, x) as u64;
-            }
-            sum
-        };
-        row(
-            "drop_name",
-            n,
-            race(
-                || drops(&mut a, drop_name),
-                || drops(&mut b, plain::drop_name),
-            ),
-            base,
-        );
-
-        let tests = |v: &Vec<Vec<u64>>, count: usize, f: fn(&[u64], usize, u32) -> bool| {
-            let mut sum = 0;
-            for k in 0..CALLS {
-                sum += f(&v[k % 64], count, 64) as u64;
-            }
-            assert_eq!(sum as usize, CALLS);
-            sum
-        };
-        row(
-            "is_sound",
-            n,
-            race(
-                || tests(&full, n, is_sound),
-                || tests(&full, n, plain::is_sound),
-            ),
-            0.0,
-        );
-        let few: Vec<Vec<u64>> = (0..64).map(|_| namespace(&mut r, n, n / 4)).collect();
-        row(
-            "  a quarter",
-            n,
-            race(
-                || tests(&few, n / 4, is_sound),
-                || tests(&few, n / 4, plain::is_sound),
-            ),
-            0.0,
-        );
+        let held = asked(&mut r, n, n, |_, name| name);
+        let new = asked(&mut r, n, n - 1, |r, name| name - r.below(2) as u32 * 2 + 1);
+        let few = spaces(&mut r, n, n / 4);
+        row("find", n, find_timed(&held));
+        row("add", n, add_timed(&new));
+        row("drop_name", n, drop_timed(&held));
+        row("is_sound", n, test_timed(&held.spaces, n));
+        row("  a quarter", n, test_timed(&few, n / 4));
     }
 }

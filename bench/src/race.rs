@@ -16,7 +16,11 @@ pub fn race<const SIDES: usize>(
     for round in 0..rounds {
         for (k, best) in best.iter_mut().enumerate() {
             for step in 0..SIDES {
-                let side = if round % 2 == 0 { step } else { SIDES - 1 - step };
+                let side = if round % 2 == 0 {
+                    step
+                } else {
+                    SIDES - 1 - step
+                };
                 ready(side);
                 let start = Instant::now();
                 black_box(turn(side, k));

@@ -63,24 +63,42 @@ fn lookups() -> Vec<u8> {
     Vec::new()
 }
 
+/// The scripts that are timed, by name.
+fn scripts(seed: u64) -> [(&'static str, Vec<u8>); 3] {
+    [
+        ("no bytes", Vec::new()),
+        ("random commands", model::generate::script(seed, 4_000)),
+        ("a full table, then lookups", lookups()),
+    ]
+}
+
+/// The words that run a script in plain Rust.
+fn plain() -> [String; 2] {
+    let own = std::env::current_exe().expect("this program's own path");
+    [own.to_string_lossy().into_owned(), PLAIN.to_string()]
+}
+
+/// Holds the program and plain Rust to the same lines on the scripts that are timed; how many there were.
+pub fn agree(seed: u64, program: &[String]) -> usize {
+    let scripts = scripts(seed);
+    for (what, script) in &scripts {
+        assert!(
+            printed(program, script) == printed(&plain(), script),
+            "{what}: they print the same"
+        );
+    }
+    scripts.len()
+}
+
 /// The best of many runs of each script by turns, once both print the same.
 pub fn times(seed: u64, program: &[String]) {
-    let own = std::env::current_exe().expect("this program's own path");
-    let plain = [own.to_string_lossy().into_owned(), PLAIN.to_string()];
+    agree(seed, program);
+    let plain = plain();
     println!(
         "\n{:<30} {:>8} {:>8} {:>10} {:>9} {:>7}",
         "whole scripts", "bytes", "lines", "proved ms", "plain ms", "ratio"
     );
-    let random = model::generate::script(seed, 4_000);
-    for (what, script) in [
-        ("no bytes", Vec::new()),
-        ("random commands", random),
-        ("a full table, then lookups", lookups()),
-    ] {
-        assert!(
-            printed(program, &script) == printed(&plain, &script),
-            "{what}: they print the same"
-        );
+    for (what, script) in scripts(seed) {
         let lines = script.iter().filter(|byte| **byte == b'\n').count();
         let mut best = [f64::MAX; 2];
         for _ in 0..RUNS {

@@ -3,7 +3,7 @@
 use crate::api::{Api, PROVED};
 use crate::call::{calls, Asked, Lent, Which};
 use crate::commands::{free_rows, main_cases};
-use crate::tables::{table, FULL};
+use crate::tables::{table, Size, FULL};
 use model::prng::Prng;
 
 const PAINT: u64 = 0xa5a5_5a5a_c3c3_3c3c;
@@ -35,6 +35,12 @@ unsafe extern "C" fn nothing(_: *const u64, _: usize) -> bool {
     false
 }
 
+/// The proved side with a test that does nothing.
+const NOTHING: Api = Api {
+    is_sound: nothing,
+    ..PROVED
+};
+
 /// The test, then each command; bytes beyond those of a call of nothing.
 pub fn depths(seed: u64) {
     let measured = std::thread::Builder::new()
@@ -52,49 +58,44 @@ pub fn depths(seed: u64) {
 fn measure(seed: u64) -> Vec<(String, usize)> {
     let mut prng = Prng::new(seed);
     let words = table(&mut prng, FULL);
-    let test = |api: &Api, words: &[u64]| {
-        u64::from(unsafe { (api.is_sound)(words.as_ptr(), words.len()) })
-    };
-    let base = depth(&mut || {
-        test(
-            &Api {
-                is_sound: nothing,
-                ..PROVED
-            },
-            &words,
-        )
-    });
-    let mut all = vec![(
-        "IsSound".to_string(),
-        depth(&mut || test(&PROVED, &words)).saturating_sub(base),
-    )];
-    let none = Asked {
+    let base = depth(&mut || test(&NOTHING, &words));
+    let tested = depth(&mut || test(&PROVED, &words)).saturating_sub(base);
+    let opening = Asked {
         n: 64,
         ..Asked::default()
     };
-    all.push((
-        "Open".to_string(),
-        worst(base, Which::Open, &words, &[none]),
-    ));
+    let opened = worst(base, Which::Open, &words, &[opening]);
+    let mut all = vec![
+        ("IsSound".to_string(), tested),
+        ("Open".to_string(), opened),
+    ];
     for which in Which::COMMANDS {
-        let smaller = table(
-            &mut prng,
-            crate::tables::Size {
-                groups: 31,
-                names: 31,
-                ..FULL
-            },
-        );
-        let asked = main_cases(&mut prng, which, &smaller, 64);
-        let mut bytes = worst(base, which, &smaller, &asked);
-        for (_, other, table, one) in free_rows() {
-            if other == which {
-                bytes = bytes.max(worst(base, which, &table, &[one]));
-            }
-        }
-        all.push((format!("{which:?}"), bytes));
+        all.push((format!("{which:?}"), command(&mut prng, base, which)));
     }
     all
+}
+
+/// One test, as a number.
+fn test(api: &Api, words: &[u64]) -> u64 {
+    u64::from(unsafe { (api.is_sound)(words.as_ptr(), words.len()) })
+}
+
+/// The deepest of many calls of a command on a nearly full table, and of its calls that move most free nodes.
+fn command(prng: &mut Prng, base: usize, which: Which) -> usize {
+    let nearly = Size {
+        groups: 31,
+        names: 31,
+        ..FULL
+    };
+    let words = table(prng, nearly);
+    let asked = main_cases(prng, which, &words, 64);
+    let mut bytes = worst(base, which, &words, &asked);
+    for (_, other, words, one) in free_rows() {
+        if other == which {
+            bytes = bytes.max(worst(base, which, &words, &[one]));
+        }
+    }
+    bytes
 }
 
 /// The deepest of these calls, each on the table as it was.

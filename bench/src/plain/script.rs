@@ -66,75 +66,48 @@ fn half(field: &[u8]) -> Option<u32> {
     wide(field).and_then(|value| value.try_into().ok())
 }
 
-/// The line's answer; none for a line that is not of the form.
-fn called(table: &mut Table, line: &[u8], list: &mut [u64]) -> Option<Answer> {
+/// The fields of a line and their number; none where there are more than a line has.
+fn fields(line: &[u8]) -> Option<([&[u8]; FIELDS], usize)> {
     let mut fields = [&line[..0]; FIELDS];
     let mut count = 0;
     for field in line.split(|byte| *byte == b' ') {
         *fields.get_mut(count)? = field;
         count += 1;
     }
-    let [first, word, a, b, c] = fields;
+    Some((fields, count))
+}
+
+/// The line's answer; none for a line that is not of the form.
+fn called(table: &mut Table, line: &[u8], list: &mut [u64]) -> Option<Answer> {
+    let ([first, word, a, b, c], count) = fields(line)?;
     if first == b"open" {
         let (n, hidden) = (half(word)?, wide(a)?);
         return (count == 3).then(|| steps::open(table, n, hidden));
     }
     let i = half(first)?;
+    // A step with its fields, each read at its width, and with the list where it writes one.
+    macro_rules! step {
+        ($name:ident ( $($field:ident : $width:ident),* ) $($list:ident)?) => {{
+            $(let $field = $width($field)?;)*
+            tested(table, |t| steps::$name(t, i, $($field,)* $($list)?))
+        }};
+    }
     Some(match (word, count) {
-        (b"register_name", 5) => {
-            let (s, n, p) = (half(a)?, half(b)?, half(c)?);
-            tested(table, |t| steps::register_name(t, i, s, n, p))
-        }
-        (b"re_register_name", 5) => {
-            let (s, n, p) = (half(a)?, half(b)?, half(c)?);
-            tested(table, |t| steps::re_register_name(t, i, s, n, p))
-        }
-        (b"unregister_name", 4) => {
-            let (s, n) = (half(a)?, half(b)?);
-            tested(table, |t| steps::unregister_name(t, i, s, n))
-        }
-        (b"registered_names", 3) => {
-            let s = half(a)?;
-            tested(table, |t| steps::registered_names(t, i, s, list))
-        }
-        (b"whereis_name", 4) => {
-            let (s, n) = (half(a)?, half(b)?);
-            tested(table, |t| steps::whereis_name(t, i, s, n))
-        }
-        (b"whereis_name", 5) => {
-            let (node, s, n) = (half(a)?, half(b)?, half(c)?);
-            tested(table, |t| steps::whereis_name_at(t, i, node, s, n))
-        }
-        (b"send", 3) => {
-            let p = half(a)?;
-            tested(table, |t| steps::send(t, i, p))
-        }
-        (b"send", 4) => {
-            let (s, n) = (half(a)?, half(b)?);
-            tested(table, |t| steps::send_name(t, i, s, n))
-        }
-        (b"send", 5) => {
-            let (node, s, n) = (half(a)?, half(b)?, half(c)?);
-            tested(table, |t| steps::send_at(t, i, node, s, n))
-        }
-        (b"new_s_group", 4) => {
-            let (s, set) = (half(a)?, wide(b)?);
-            tested(table, |t| steps::new_s_group(t, i, s, set))
-        }
-        (b"add_nodes", 4) => {
-            let (s, set) = (half(a)?, wide(b)?);
-            tested(table, |t| steps::add_nodes(t, i, s, set))
-        }
-        (b"remove_nodes", 4) => {
-            let (s, set) = (half(a)?, wide(b)?);
-            tested(table, |t| steps::remove_nodes(t, i, s, set))
-        }
-        (b"delete_s_group", 3) => {
-            let s = half(a)?;
-            tested(table, |t| steps::delete_s_group(t, i, s))
-        }
-        (b"own_nodes", 2) => tested(table, |t| steps::own_nodes(t, i)),
-        (b"own_s_groups", 2) => tested(table, |t| steps::own_s_groups(t, i, list)),
+        (b"register_name", 5) => step!(register_name(a: half, b: half, c: half)),
+        (b"re_register_name", 5) => step!(re_register_name(a: half, b: half, c: half)),
+        (b"unregister_name", 4) => step!(unregister_name(a: half, b: half)),
+        (b"registered_names", 3) => step!(registered_names(a: half) list),
+        (b"whereis_name", 4) => step!(whereis_name(a: half, b: half)),
+        (b"whereis_name", 5) => step!(whereis_name_at(a: half, b: half, c: half)),
+        (b"send", 3) => step!(send(a: half)),
+        (b"send", 4) => step!(send_name(a: half, b: half)),
+        (b"send", 5) => step!(send_at(a: half, b: half, c: half)),
+        (b"new_s_group", 4) => step!(new_s_group(a: half, b: wide)),
+        (b"add_nodes", 4) => step!(add_nodes(a: half, b: wide)),
+        (b"remove_nodes", 4) => step!(remove_nodes(a: half, b: wide)),
+        (b"delete_s_group", 3) => step!(delete_s_group(a: half)),
+        (b"own_nodes", 2) => step!(own_nodes()),
+        (b"own_s_groups", 2) => step!(own_s_groups() list),
         _ => return None,
     })
 }

@@ -11,6 +11,7 @@ mod words;
 use number::Half;
 use number::Number;
 
+// What a script line asks for.
 pub enum Request {
     // a fresh table: how many nodes, and the set of hidden ones
     Open(u32, u64),

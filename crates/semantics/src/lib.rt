@@ -41,6 +41,7 @@ pub enum Reason {
     RunShort,
 }
 
+// What a call answers.
 pub struct Answer {
     pub value: Value,
     pub reason: Reason,

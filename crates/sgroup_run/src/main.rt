@@ -41,6 +41,7 @@ fn read_input(buf: &mut [u8]) -> Input
     }
 }
 
+// Runs the script of standard input on a table of zeros, piece by piece, and writes out what each piece prints.
 fn main() {
     let mut text = [0u8; INPUT_ROOM];
     let input = read_input(&mut text);

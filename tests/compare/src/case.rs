@@ -4,6 +4,7 @@ use crate::library::{self, ANSWER_WORDS, NO_ROOM};
 use model::command::{Command, Request};
 use model::compare::outcome;
 use model::sound::failing_clauses;
+use model::state::PIDS_PER_HOST;
 use model::table::WORDS;
 
 /// A request with the runs that are lent to it.
@@ -107,20 +108,25 @@ fn left_unsound(case: &Case, ours: &Ran) -> Option<String> {
     broken.then(|| "a sound table is left unsound".to_string())
 }
 
-/// A refusal writes nothing but the connection of the remote forms under 8 to 16.
+/// A refusal writes nothing; only a remote form under 8 to 16 leaves its connection, which is the table as a send to the asked node leaves it.
 fn wrote_on_refusal(case: &Case, ours: &Ran) -> Option<String> {
-    let remote = matches!(
-        &case.request,
-        Request::Call {
-            command: Command::WhereisNameAt { .. } | Command::SendNameAt { .. },
-            ..
-        }
-    );
-    let silent = match ours.returned {
-        0 => false,
-        8..=16 => !remote,
-        _ => true,
+    let connected = match (ours.returned, &case.request) {
+        (8..=16, Request::Call { caller, command }) => command
+            .asked_node()
+            .map(|at| after_send(&case.table, *caller, at)),
+        _ => None,
     };
-    let wrote = silent && (ours.table != case.table || ours.out != case.out);
-    wrote.then(|| format!("a refusal with reason {} wrote", ours.returned))
+    let table = connected.as_ref().unwrap_or(&case.table);
+    let wrote = ours.returned != 0 && (ours.table != *table || ours.out != case.out);
+    wrote.then(|| format!("a refusal with reason {} left other words", ours.returned))
+}
+
+/// The table after the caller's send, through the library, to a pid of this node.
+fn after_send(table: &[u64], caller: u32, node: u32) -> Vec<u64> {
+    let p = node * PIDS_PER_HOST;
+    let command = Command::SendPid { p };
+    let request = Request::Call { caller, command };
+    let mut after = table.to_vec();
+    library::call(&request, &mut after, &mut [], &mut [0; ANSWER_WORDS]);
+    after
 }

@@ -4,6 +4,9 @@
 use crate::case::Case;
 use model::script::parse;
 
+/// The folder of the failing cases and scripts, which tests/compare.sh runs again before anything else.
+pub const FOLDER: &str = concat!(env!("CARGO_MANIFEST_DIR"), "/kept");
+
 /// The case as text.
 pub fn text(case: &Case) -> String {
     let run = |name: &str, words: &[u64]| {

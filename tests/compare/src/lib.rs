@@ -4,12 +4,13 @@
 //! - `case`: one call with its lent runs, and how the library's outcome differs from the model's.
 //! - `random`: random cases from a seed.
 //! - `kept`: a failing case as a file, and back.
-//! - `smaller`: makes a failing case smaller.
+//! - `smaller`, `parts`: make a failing case smaller.
 //! - `scripts`: random and fixed scripts for the program.
 
 pub mod case;
 pub mod kept;
 pub mod library;
+pub mod parts;
 pub mod random;
 pub mod scripts;
 pub mod smaller;

@@ -92,70 +92,43 @@ impl Form {
         }
     }
 
+    /// Whether there are as many arguments as it takes, each of its width.
+    fn takes(self, arguments: &[u64]) -> bool {
+        let mut each = self.widths().iter().zip(arguments);
+        self.widths().len() == arguments.len() && each.all(|(w, a)| *a <= w.largest())
+    }
+
     /// The reasons from 4 on that this command can have.
+    #[rustfmt::skip]
     pub fn reasons(self) -> &'static [Reason] {
         use Reason::*;
         match self {
             Form::RegisterName => &[
-                CallerOffRoster,
-                GroupNameRange,
-                ProcessNameZero,
-                NodeOffRoster,
-                NoSuchGroup,
-                NotMember,
-                NameHeld,
-                PidHeld,
-                NamespaceFull,
+                CallerOffRoster, GroupNameRange, ProcessNameZero, NodeOffRoster, NoSuchGroup,
+                NotMember, NameHeld, PidHeld, NamespaceFull,
             ],
             Form::ReRegisterName => &[
-                CallerOffRoster,
-                GroupNameRange,
-                ProcessNameZero,
-                NodeOffRoster,
-                NoSuchGroup,
-                NotMember,
-                PidHeld,
-                NamespaceFull,
+                CallerOffRoster, GroupNameRange, ProcessNameZero, NodeOffRoster, NoSuchGroup,
+                NotMember, PidHeld, NamespaceFull,
             ],
             Form::UnregisterName | Form::WhereisName | Form::SendName => &[
-                CallerOffRoster,
-                GroupNameRange,
-                ProcessNameZero,
-                NoSuchGroup,
-                NotMember,
+                CallerOffRoster, GroupNameRange, ProcessNameZero, NoSuchGroup, NotMember,
                 NameAbsent,
             ],
             Form::RegisteredNames => &[
-                CallerOffRoster,
-                GroupNameRange,
-                NoSuchGroup,
-                NotMember,
-                ShortRun,
+                CallerOffRoster, GroupNameRange, NoSuchGroup, NotMember, ShortRun,
             ],
             Form::WhereisNameAt | Form::SendNameAt => &[
-                CallerOffRoster,
-                GroupNameRange,
-                ProcessNameZero,
-                NodeOffRoster,
-                NoSuchGroup,
-                NotMember,
-                NameAbsent,
+                CallerOffRoster, GroupNameRange, ProcessNameZero, NodeOffRoster, NoSuchGroup,
+                NotMember, NameAbsent,
             ],
             Form::SendPid => &[CallerOffRoster, NodeOffRoster],
             Form::NewSGroup => &[
-                CallerOffRoster,
-                GroupNameRange,
-                NodeOffRoster,
-                CallerNotInSet,
-                GroupNameInUse,
+                CallerOffRoster, GroupNameRange, NodeOffRoster, CallerNotInSet, GroupNameInUse,
                 GroupsFull,
             ],
             Form::AddNodes | Form::RemoveNodes => &[
-                CallerOffRoster,
-                GroupNameRange,
-                NodeOffRoster,
-                NoSuchGroup,
-                NotMember,
+                CallerOffRoster, GroupNameRange, NodeOffRoster, NoSuchGroup, NotMember,
             ],
             Form::DeleteSGroup => &[CallerOffRoster, GroupNameRange, NoSuchGroup, NotMember],
             Form::OwnNodes => &[CallerOffRoster],
@@ -189,62 +162,33 @@ impl Command {
     /// The command of a form with these arguments; none if their number or a
     /// width doesn't fit.
     pub fn from_arguments(form: Form, arguments: &[u64]) -> Option<Command> {
-        let widths = form.widths();
-        let fits = widths.len() == arguments.len()
-            && widths.iter().zip(arguments).all(|(w, a)| *a <= w.largest());
-        if !fits {
+        if !form.takes(arguments) {
             return None;
         }
-        let number = |i: usize| arguments[i] as u32;
-        let set = |i: usize| set_of(arguments[i]);
+        let given = |i: usize| arguments.get(i).copied().unwrap_or(0);
+        let [first, second, third] = [0, 1, 2].map(|i| given(i) as u32);
+        let (s, n, p) = (first, second, third);
+        let set = set_of(given(1));
         Some(match form {
-            Form::RegisterName => Command::RegisterName {
-                s: number(0),
-                n: number(1),
-                p: number(2),
-            },
-            Form::ReRegisterName => Command::ReRegisterName {
-                s: number(0),
-                n: number(1),
-                p: number(2),
-            },
-            Form::UnregisterName => Command::UnregisterName {
-                s: number(0),
-                n: number(1),
-            },
-            Form::RegisteredNames => Command::RegisteredNames { s: number(0) },
-            Form::WhereisName => Command::WhereisName {
-                s: number(0),
-                n: number(1),
-            },
-            Form::WhereisNameAt => Command::WhereisNameAt {
-                at: number(0),
-                s: number(1),
-                n: number(2),
-            },
-            Form::SendPid => Command::SendPid { p: number(0) },
-            Form::SendName => Command::SendName {
-                s: number(0),
-                n: number(1),
-            },
-            Form::SendNameAt => Command::SendNameAt {
-                at: number(0),
-                s: number(1),
-                n: number(2),
-            },
-            Form::NewSGroup => Command::NewSGroup {
-                s: number(0),
-                set: set(1),
-            },
-            Form::AddNodes => Command::AddNodes {
-                s: number(0),
-                set: set(1),
-            },
-            Form::RemoveNodes => Command::RemoveNodes {
-                s: number(0),
-                set: set(1),
-            },
-            Form::DeleteSGroup => Command::DeleteSGroup { s: number(0) },
+            Form::RegisterName => Command::RegisterName { s, n, p },
+            Form::ReRegisterName => Command::ReRegisterName { s, n, p },
+            Form::UnregisterName => Command::UnregisterName { s, n },
+            Form::RegisteredNames => Command::RegisteredNames { s },
+            Form::WhereisName => Command::WhereisName { s, n },
+            Form::WhereisNameAt => {
+                let (at, s, n) = (first, second, third);
+                Command::WhereisNameAt { at, s, n }
+            }
+            Form::SendPid => Command::SendPid { p: first },
+            Form::SendName => Command::SendName { s, n },
+            Form::SendNameAt => {
+                let (at, s, n) = (first, second, third);
+                Command::SendNameAt { at, s, n }
+            }
+            Form::NewSGroup => Command::NewSGroup { s, set },
+            Form::AddNodes => Command::AddNodes { s, set },
+            Form::RemoveNodes => Command::RemoveNodes { s, set },
+            Form::DeleteSGroup => Command::DeleteSGroup { s },
             Form::OwnNodes => Command::OwnNodes,
             Form::OwnSGroups => Command::OwnSGroups,
         })

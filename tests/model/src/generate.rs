@@ -1,5 +1,5 @@
-//! Random requests, scripts and sound tables. The generator runs the model on
-//! the side, so that most calls are of nodes and names that are there; every
+//! Random requests, scripts and states. The generator runs the model on the
+//! side, so that most calls are of nodes and names that are there; every
 //! few dozen lines it takes up another theme.
 
 use crate::command::{Command, Form, Request};
@@ -8,7 +8,6 @@ use crate::prng::Prng;
 use crate::rules::Law;
 use crate::script::{Session, LONGEST_SCRIPT};
 use crate::state::{set_of, word_of, NodeSet, State, PIDS_PER_HOST};
-use crate::table::words_of;
 
 /// What a stretch of lines is about.
 #[derive(Clone, Copy, Debug, PartialEq, Eq)]
@@ -70,16 +69,6 @@ pub fn script(seed: u64, lines: usize) -> Vec<u8> {
         bytes.pop();
     }
     bytes
-}
-
-/// A random sound table: a random run of well formed requests from an opening.
-pub fn sound_table(seed: u64) -> Vec<u64> {
-    let mut generator = Generator::new(seed);
-    let steps = 1 + generator.prng.below(160);
-    for _ in 0..steps {
-        generator.request();
-    }
-    words_of(&generator.opened_state())
 }
 
 /// Gives one random request or line after the other.
@@ -207,74 +196,46 @@ impl Generator {
         };
     }
 
-    /// A form that fits the theme.
+    /// A form that fits the theme; now and then any form.
     fn form(&mut self) -> Form {
-        let focus_is_there = self
-            .state()
-            .is_some_and(|s| s.s_groups.contains_key(&self.focus));
         let patient = matches!(self.theme, Theme::Filling | Theme::Crowding);
+        if self.prng.once_in(if patient { 20 } else { 8 }) || self.state().is_none() {
+            return self.prng.pick(&Form::ALL);
+        }
+        match self.forms() {
+            [only] => *only,
+            several => self.prng.pick(several),
+        }
+    }
+
+    /// The forms of the theme, as often as each is wanted. What a theme is about
+    /// has to be there first.
+    #[rustfmt::skip]
+    fn forms(&self) -> &'static [Form] {
+        use Form::*;
+        let groups = self.group_names();
         match self.theme {
-            _ if self.prng.once_in(if patient { 20 } else { 8 }) => self.prng.pick(&Form::ALL),
-            _ if self.state().is_none() => self.prng.pick(&Form::ALL),
-            Theme::Anything => self.prng.pick(&Form::ALL),
-            Theme::Naming | Theme::Filling if !focus_is_there => Form::NewSGroup,
-            Theme::Naming => self.prng.pick(&[
-                Form::RegisterName,
-                Form::RegisterName,
-                Form::ReRegisterName,
-                Form::UnregisterName,
-                Form::RegisteredNames,
-                Form::WhereisName,
-                Form::SendName,
-            ]),
-            Theme::Filling => self.prng.pick(&[
-                Form::RegisterName,
-                Form::RegisterName,
-                Form::RegisterName,
-                Form::RegisterName,
-                Form::RegisterName,
-                Form::ReRegisterName,
-            ]),
-            Theme::Crowding => Form::NewSGroup,
-            Theme::Growing if self.group_names().is_empty() => Form::NewSGroup,
-            Theme::Growing => self
-                .prng
-                .pick(&[Form::NewSGroup, Form::AddNodes, Form::AddNodes]),
-            Theme::Thinning if self.group_names().is_empty() => Form::SendPid,
-            Theme::Thinning => self.prng.pick(&[
-                Form::RemoveNodes,
-                Form::RemoveNodes,
-                Form::DeleteSGroup,
-                Form::OwnNodes,
-            ]),
-            Theme::Linking => {
-                self.prng
-                    .pick(&[Form::SendPid, Form::SendPid, Form::SendPid, Form::OwnNodes])
-            }
-            Theme::Freeing if self.group_names().is_empty() => Form::NewSGroup,
-            Theme::Freeing => self.prng.pick(&[
-                Form::NewSGroup,
-                Form::SendPid,
-                Form::SendPid,
-                Form::SendPid,
-                Form::SendPid,
-                Form::DeleteSGroup,
-                Form::RemoveNodes,
-                Form::OwnNodes,
-            ]),
-            Theme::Remote => self.prng.pick(&[
-                Form::WhereisNameAt,
-                Form::WhereisNameAt,
-                Form::SendNameAt,
-                Form::SendNameAt,
-                Form::SendPid,
-            ]),
-            Theme::Asking => self.prng.pick(&[
-                Form::OwnNodes,
-                Form::OwnSGroups,
-                Form::RegisteredNames,
-                Form::WhereisName,
-            ]),
+            Theme::Naming | Theme::Filling if !groups.contains(&self.focus) => &[NewSGroup],
+            Theme::Growing | Theme::Freeing if groups.is_empty() => &[NewSGroup],
+            Theme::Thinning if groups.is_empty() => &[SendPid],
+            Theme::Anything => &Form::ALL,
+            Theme::Naming => &[
+                RegisterName, RegisterName, ReRegisterName, UnregisterName, RegisteredNames,
+                WhereisName, SendName,
+            ],
+            Theme::Filling => &[
+                RegisterName, RegisterName, RegisterName, RegisterName, RegisterName,
+                ReRegisterName,
+            ],
+            Theme::Crowding => &[NewSGroup],
+            Theme::Growing => &[NewSGroup, AddNodes, AddNodes],
+            Theme::Thinning => &[RemoveNodes, RemoveNodes, DeleteSGroup, OwnNodes],
+            Theme::Linking => &[SendPid, SendPid, SendPid, OwnNodes],
+            Theme::Freeing => &[
+                NewSGroup, SendPid, SendPid, SendPid, SendPid, DeleteSGroup, RemoveNodes, OwnNodes,
+            ],
+            Theme::Remote => &[WhereisNameAt, WhereisNameAt, SendNameAt, SendNameAt, SendPid],
+            Theme::Asking => &[OwnNodes, OwnSGroups, RegisteredNames, WhereisName],
         }
     }
 

@@ -1,8 +1,9 @@
 //! An independent model of the s_group table and its script program.
 //!
-//! The model is written from document 01 alone. It keeps the state as sets and
-//! maps and knows the table's layout only in `table` and `sound`, so that it can
-//! be held against the proved library without sharing its structure.
+//! The model is written from document 01 and our readings of it alone. It keeps
+//! the state as sets and maps and knows the table's layout only in `table` and
+//! `sound`, so that it can be held against the proved library without sharing
+//! its structure.
 //!
 //! - `answer`: values and reasons, with their numbers and printed words.
 //! - `command`: the fifteen commands, their arguments and possible reasons.

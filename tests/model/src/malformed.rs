@@ -91,35 +91,18 @@ pub fn malformed(fault: Fault, request: &Request, prng: &mut Prng) -> Vec<u8> {
         Fault::JustTooWide => with_number(request, prng, |_, width| {
             (u128::from(width.largest()) + 1).to_string()
         }),
-        Fault::FarTooWide => {
-            let zeros = 21 + prng.below(20) as usize;
-            with_number(request, prng, |_, _| format!("1{}", "0".repeat(zeros)))
-        }
+        Fault::FarTooWide => far_too_wide(request, prng),
         Fault::MissingField => missing_field(request, &fields, prng),
         Fault::ExtraField => extra_field(request, fields, prng),
-        Fault::UnknownWord => with_word(request, fields, prng, |_, prng| {
-            prng.pick(&["own_node", "register", "whereis", "close", "0", "_"])
-                .to_string()
-        }),
-        Fault::UpperCase => with_word(request, fields, prng, |word, prng| {
-            let place = word.find(|c: char| c.is_ascii_lowercase()).unwrap_or(0);
-            let some = word[place..=place].to_ascii_uppercase() + &word[place + 1..];
-            prng.pick(&[word.to_ascii_uppercase(), some])
-        }),
-        Fault::CutWord => with_word(request, fields, prng, |word, prng| {
-            word[..prng.below(word.len() as u64) as usize].to_string()
-        }),
+        Fault::UnknownWord => with_word(request, fields, prng, unknown_word),
+        Fault::UpperCase => with_word(request, fields, prng, upper_case),
+        Fault::CutWord => with_word(request, fields, prng, cut_word),
         Fault::LongerWord => with_word(request, fields, prng, |word, _| format!("{word}s")),
         Fault::Brackets => with_word(request, fields, prng, |word, _| format!("{word}()")),
         Fault::WordFirst => fields[1..].join(" ").into_bytes(),
         Fault::NumberAlone => prng.below(64).to_string().into_bytes(),
         Fault::OpenAfterCaller => format!("0 open {} 0", 1 + prng.below(64)).into_bytes(),
-        Fault::LongLine => {
-            let length = 121 + prng.below(200) as usize;
-            let mut long = format!("{line} ").into_bytes();
-            long.resize(length, b'1');
-            long
-        }
+        Fault::LongLine => long_line(&line, prng),
     }
 }
 
@@ -168,6 +151,20 @@ fn with_number(
     fields.join(" ").into_bytes()
 }
 
+/// The line with a number of more digits than any width has.
+fn far_too_wide(request: &Request, prng: &mut Prng) -> Vec<u8> {
+    let zeros = 21 + prng.below(20) as usize;
+    with_number(request, prng, |_, _| format!("1{}", "0".repeat(zeros)))
+}
+
+/// The line with digits after it, longer than the longest.
+fn long_line(line: &str, prng: &mut Prng) -> Vec<u8> {
+    let length = 121 + prng.below(200) as usize;
+    let mut long = format!("{line} ").into_bytes();
+    long.resize(length, b'1');
+    long
+}
+
 /// The line with its command word changed.
 fn with_word(
     request: &Request,
@@ -181,6 +178,22 @@ fn with_word(
     };
     fields[place] = change(&fields[place], prng);
     fields.join(" ").into_bytes()
+}
+
+fn unknown_word(_: &str, prng: &mut Prng) -> String {
+    prng.pick(&["own_node", "register", "whereis", "close", "0", "_"])
+        .to_string()
+}
+
+/// The word with its first letter or all letters in upper case.
+fn upper_case(word: &str, prng: &mut Prng) -> String {
+    let place = word.find(|c: char| c.is_ascii_lowercase()).unwrap_or(0);
+    let some = word[place..=place].to_ascii_uppercase() + &word[place + 1..];
+    prng.pick(&[word.to_ascii_uppercase(), some])
+}
+
+fn cut_word(word: &str, prng: &mut Prng) -> String {
+    word[..prng.below(word.len() as u64) as usize].to_string()
 }
 
 /// The numbers of arguments that a line's word takes.

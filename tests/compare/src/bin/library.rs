@@ -1,6 +1,6 @@
 //! Comparison of the library with the model on random calls: `library SEED WALKS`, or `library again FILE..` for kept cases. Walk k has the seed
-//! SEED + k. Prints what was covered; a case that differs is made smaller and kept in target/compare/. The status is 0 where nothing differs and every
-//! reason that a command can have was seen.
+//! SEED + k. Prints what was covered; a case that differs is made smaller and kept in tests/compare/kept/. The status is 0 where nothing differs and
+//! every reason that a command can have was seen.
 
 use compare::case::{difference, ran, Case};
 use compare::random::{Kind, Walk, STEPS};
@@ -115,9 +115,9 @@ fn walked(seed: u64, walks: u64) -> ExitCode {
 fn report(seed: u64, step: usize, case: &Case, wrong: &str) {
     println!("library: walk {seed}, step {step}: {wrong}");
     let small = smaller::smaller(case, &|case| difference(case).is_some());
-    let path = format!("target/compare/library-{seed}-{step}.case");
+    let path = format!("{}/library-{seed}-{step}.case", kept::FOLDER);
     let written =
-        fs::create_dir_all("target/compare").and_then(|()| fs::write(&path, kept::text(&small)));
+        fs::create_dir_all(kept::FOLDER).and_then(|()| fs::write(&path, kept::text(&small)));
     match written {
         Ok(()) => println!("library: made smaller and kept in {path}:"),
         Err(error) => println!("library: {path} can't be written, {error}:"),

@@ -1,13 +1,22 @@
 //! Comparison of the compiled program with the model on scripts: `scripts SEED COUNT PROGRAM [WORD..]`, or `scripts again FILE PROGRAM [WORD..]`.
 //! Script k has the seed SEED + k; the fixed scripts come first. PROGRAM with its words is run with the script on standard input. A script that
-//! differs is made shorter and kept in target/compare/. The status is 0 where every printed byte is the model's.
+//! differs is made shorter and kept in tests/compare/kept/. The status is 0 where every printed byte is the model's, nothing comes on standard
+//! error, and each run ends in time.
 
+use compare::kept;
 use compare::scripts::{fixed, random};
 use model::shrink::{keep, shrunk};
 use std::fs;
-use std::io::Write;
+use std::io::{Read, Write};
 use std::path::Path;
-use std::process::{Command, ExitCode, Stdio};
+use std::process::{Child, Command, ExitCode, ExitStatus, Stdio};
+use std::thread::{self, JoinHandle};
+use std::time::{Duration, Instant};
+
+/// How long one run of the program may take.
+const RUN_LIMIT: Duration = Duration::from_secs(60);
+/// How long a failing script is made shorter.
+const SHRINK_LIMIT: Duration = Duration::from_secs(300);
 
 fn main() -> ExitCode {
     let arguments: Vec<String> = std::env::args().skip(1).collect();
@@ -34,20 +43,50 @@ fn printed(program: &[String], script: &[u8]) -> Result<Vec<u8>, String> {
         .args(&program[1..])
         .stdin(Stdio::piped())
         .stdout(Stdio::piped())
+        .stderr(Stdio::piped())
         .spawn()
         .map_err(|error| format!("{}: {error}", program[0]))?;
     let mut input = child.stdin.take().ok_or("no standard input")?;
+    let output = all_of(child.stdout.take().ok_or("no standard output")?);
+    let errors = all_of(child.stderr.take().ok_or("no standard error")?);
     let bytes = script.to_vec();
     // A program that stops reading early closes the pipe; what it printed says the rest.
-    let feeder = std::thread::spawn(move || drop(input.write_all(&bytes)));
-    let output = child
-        .wait_with_output()
-        .map_err(|error| error.to_string())?;
+    let feeder = thread::spawn(move || drop(input.write_all(&bytes)));
+    let status = ended(&mut child)?;
     feeder.join().map_err(|_| "the script could not be fed")?;
-    if output.status.success() {
-        Ok(output.stdout)
-    } else {
-        Err(format!("the program ended with {}", output.status))
+    let output = output.join().map_err(|_| "the output could not be read")?;
+    let errors = errors.join().map_err(|_| "the errors could not be read")?;
+    if !status.success() || !errors.is_empty() {
+        let said = String::from_utf8_lossy(&errors);
+        return Err(format!("the program ended with {status} and said {said:?}"));
+    }
+    Ok(output)
+}
+
+/// Reads a pipe to its end.
+fn all_of(mut pipe: impl Read + Send + 'static) -> JoinHandle<Vec<u8>> {
+    thread::spawn(move || {
+        let mut bytes = Vec::new();
+        // What was read before an error is compared like the rest.
+        drop(pipe.read_to_end(&mut bytes));
+        bytes
+    })
+}
+
+/// The status of a program that ends in time; one that doesn't is ended.
+fn ended(child: &mut Child) -> Result<ExitStatus, String> {
+    let limit = Instant::now() + RUN_LIMIT;
+    loop {
+        let status = child.try_wait().map_err(|error| error.to_string())?;
+        if let Some(status) = status {
+            return Ok(status);
+        }
+        if Instant::now() > limit {
+            let end = child.kill().and_then(|()| child.wait());
+            end.map_err(|error| error.to_string())?;
+            return Err(format!("the program ran longer than {RUN_LIMIT:?}"));
+        }
+        thread::sleep(Duration::from_millis(1));
     }
 }
 
@@ -113,12 +152,11 @@ fn all(seed: u64, count: u64, program: &[String]) -> ExitCode {
 
 fn report(name: &str, script: &[u8], program: &[String], wrong: &str) {
     println!("scripts: {name}: {wrong}");
-    let small = shrunk(script, &|bytes| difference(program, bytes).is_some());
-    match keep(
-        Path::new("target/compare"),
-        &format!("script-{name}"),
-        &small,
-    ) {
+    let limit = Instant::now() + SHRINK_LIMIT;
+    let small = shrunk(script, &|bytes| {
+        Instant::now() < limit && difference(program, bytes).is_some()
+    });
+    match keep(Path::new(kept::FOLDER), &format!("script-{name}"), &small) {
         Ok(path) => println!("scripts: made shorter and kept in {}:", path.display()),
         Err(error) => println!("scripts: it can't be kept, {error}:"),
     }

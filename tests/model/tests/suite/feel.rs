@@ -2,7 +2,7 @@
 //! group depend on nothing but that group, the arguments and the room.
 
 use crate::helpers::{rounds, seed};
-use model::answer::Answer;
+use model::answer::{Answer, Reason};
 use model::command::{Command, Form, Request};
 use model::generate::Generator;
 use model::rules::{call, Law};
@@ -18,16 +18,18 @@ const FORMS: [Form; 6] = [
     Form::AddNodes,
 ];
 
-fn do_call(state: &mut State, caller: u32, form: Form, arguments: &[u64]) -> Answer {
+/// A call that must have its main case.
+fn granted(state: &mut State, caller: u32, form: Form, arguments: &[u64]) {
     let command = Command::from_arguments(form, arguments).expect("the arguments fit");
-    call(&Law, state, caller, &command, 64)
+    let answer = call(&Law, state, caller, &command, 64);
+    assert_eq!(answer.reason, Reason::MainCase);
 }
 
 /// The state with group `s` replaced by this one, or gone.
 fn with_group(mut state: State, s: u32, group: Option<&SGroup>) -> State {
     if let Some(old) = state.s_groups.get(&s) {
         let member = *old.members.first().expect("each group has a member");
-        do_call(&mut state, member, Form::DeleteSGroup, &[u64::from(s)]);
+        granted(&mut state, member, Form::DeleteSGroup, &[u64::from(s)]);
     }
     let Some(group) = group else {
         return state;
@@ -35,14 +37,14 @@ fn with_group(mut state: State, s: u32, group: Option<&SGroup>) -> State {
     if state.s_groups.len() == MOST_GROUPS {
         let (other, old) = state.s_groups.first_key_value().expect("32 groups");
         let (other, member) = (u64::from(*other), *old.members.first().expect("a member"));
-        do_call(&mut state, member, Form::DeleteSGroup, &[other]);
+        granted(&mut state, member, Form::DeleteSGroup, &[other]);
     }
     let caller = *group.members.first().expect("each group has a member");
     let set = word_of(&group.members);
-    do_call(&mut state, caller, Form::NewSGroup, &[u64::from(s), set]);
+    granted(&mut state, caller, Form::NewSGroup, &[u64::from(s), set]);
     for (n, p) in &group.names {
         let arguments = [s, *n, *p].map(u64::from);
-        do_call(&mut state, caller, Form::RegisterName, &arguments);
+        granted(&mut state, caller, Form::RegisterName, &arguments);
     }
     assert_eq!(state.s_groups.get(&s), Some(group));
     state

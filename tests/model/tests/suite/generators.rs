@@ -1,10 +1,10 @@
 //! The generators: the same seed gives the same script, and together the random
 //! scripts reach what they are meant to reach.
 
-use crate::helpers::{each_step, rounds, seed, Seen};
+use crate::helpers::{each_step, rounds, seed, sound_table, Seen};
 use model::answer::Reason;
 use model::command::{Form, Request};
-use model::generate::{script, sound_table, Generator};
+use model::generate::{script, Generator};
 use model::rules::{touching_groups, unite, Law, Rules};
 use model::script::{parse, run_with, LONGEST_SCRIPT};
 use model::shrink::shrunk;

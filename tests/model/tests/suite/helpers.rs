@@ -3,7 +3,7 @@
 
 use model::answer::Answer;
 use model::command::Request;
-use model::generate::script;
+use model::generate::{script, Generator};
 use model::rules::{Law, Rules};
 use model::script::{parse, run, Session};
 use model::shrink::{keep, shrunk};
@@ -30,6 +30,16 @@ pub fn seed() -> u64 {
 /// How many rounds a random test runs; MODEL_ROUNDS overrides the usual number.
 pub fn rounds(usual: u64) -> u64 {
     setting("MODEL_ROUNDS", usual)
+}
+
+/// A random sound table: a random run of well formed requests from an opening.
+pub fn sound_table(seed: u64) -> Vec<u64> {
+    let mut generator = Generator::new(seed);
+    let steps = 1 + generator.prng.below(160);
+    for _ in 0..steps {
+        generator.request();
+    }
+    words_of(&generator.opened_state())
 }
 
 /// The request of a line that must be well formed.

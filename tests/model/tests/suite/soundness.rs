@@ -2,8 +2,7 @@
 //! random changes of one word, random words, and a second reading of soundness
 //! over the state to hold the clauses against.
 
-use crate::helpers::{rounds, seed, state_after, table};
-use model::generate::sound_table;
+use crate::helpers::{rounds, seed, sound_table, state_after, table};
 use model::mutate::{mutated, random_words};
 use model::prng::Prng;
 use model::sound::{failing_clauses, sound, Clause};
@@ -25,6 +24,11 @@ fn base() -> Vec<u64> {
         "2 send 201326592",
         "4 send 0",
     ]))
+}
+
+/// The word of a registered name.
+fn entry(name: u64, pid: u64) -> u64 {
+    (name << 32) + pid
 }
 
 /// The base with some words changed.
@@ -60,85 +64,117 @@ fn the_base_is_sound_and_as_described() {
     assert!(sound(&base()));
 }
 
-/// For each clause, changes of the base after which it fails and no other does.
-/// Disjointness follows from each group standing in its own words, so that it
-/// can't fail alone.
-fn edits_for(clause: Clause) -> Vec<Vec<(usize, u64)>> {
-    let entry = |name: u64, pid: u64| (name << 32) + pid;
-    let full: Vec<(usize, u64)> = (0..32)
-        .map(|i| (BODIES + i, entry(1 + i as u64, i as u64)))
-        .chain([(CONTENTS, 5 + 33 * 65_536)])
-        .collect();
-    match clause {
-        Clause::RosterSizeInRange => vec![vec![(0, 0)], vec![(0, 65)], vec![(0, u64::MAX)]],
-        Clause::GroupCountInRange => vec![vec![(2, 33)], vec![(2, 1 << 63)]],
-        Clause::HiddenOnRoster => vec![vec![(HIDDEN, 48 + 64)], vec![(HIDDEN, 48 + (1 << 63))]],
-        Clause::WordThreeZero => vec![vec![(3, 1)], vec![(3, 1 << 63)]],
-        Clause::GroupNameInRange => vec![vec![(CONTENTS, 2 * 65_536)]],
-        Clause::NameCountInRange => vec![full],
-        Clause::GroupNamesAscend => {
-            vec![vec![(CONTENTS, 10 + 2 * 65_536)], vec![(CONTENTS + 1, 4)]]
-        }
-        Clause::GroupNamesDistinct => vec![vec![(CONTENTS + 1, 5)]],
-        Clause::UnusedContentsZero => vec![vec![(CONTENTS + 2, 11)], vec![(CONTENTS + 31, 1)]],
-        Clause::GroupHasMember => vec![vec![(MEMBERS + 1, 0)]],
-        Clause::MembersOnRoster => {
-            vec![vec![(MEMBERS, 3 + 64)], vec![(MEMBERS + 1, 2 + (1 << 63))]]
-        }
-        Clause::UnusedMembersZero => vec![vec![(MEMBERS + 2, 1)], vec![(MEMBERS + 31, 1)]],
-        Clause::ProcessNameInRange => vec![vec![(BODIES, 67_108_865)]],
-        Clause::ProcessNamesAscend => {
-            vec![
-                vec![(BODIES, entry(72, 67_108_865))],
-                vec![(BODIES + 1, entry(69, 7))],
-            ]
-        }
-        Clause::ProcessNamesDistinct => vec![vec![(BODIES + 1, entry(70, 7))]],
-        Clause::PidsDistinct => vec![vec![(BODIES + 1, entry(71, 67_108_865))]],
-        Clause::HostsOnRoster => vec![
-            vec![(BODIES + 1, entry(71, 6 * 67_108_864))],
-            vec![(BODIES, entry(70, u64::from(u32::MAX)))],
-        ],
-        Clause::UnusedBodiesZero => vec![
-            vec![(BODIES + 2, entry(72, 8))],
-            vec![(BODIES + BODY - 1, 1)],
-            vec![(BODIES + BODY, entry(1, 1))],
-            vec![(BODIES + 2 * BODY, 1)],
-            vec![(WORDS - 1, 1)],
-        ],
-        Clause::ConnectionsOnRoster => vec![vec![(CONNECTIONS + 4, 1 + 64)]],
-        Clause::UnusedConnectionsZero => {
-            vec![vec![(CONNECTIONS + 6, 1)], vec![(CONNECTIONS + 63, 1)]]
-        }
-        Clause::ConnectionsMutual => vec![vec![(CONNECTIONS + 5, 1)], vec![(CONNECTIONS + 4, 0)]],
-        Clause::NoSelfConnection => {
-            vec![vec![(CONNECTIONS + 5, 32)], vec![(CONNECTIONS + 2, 8 + 4)]]
-        }
-        Clause::MembersConnected => vec![vec![(CONNECTIONS, 16), (CONNECTIONS + 1, 0)]],
-        Clause::FreeGroupsOnRoster => {
-            vec![vec![(FREE_GROUPS + 2, 12 + 64), (FREE_GROUPS + 3, 12 + 64)]]
-        }
-        Clause::UnusedFreeWordsZero => {
-            vec![vec![(FREE_GROUPS + 6, 64)], vec![(FREE_GROUPS + 63, 1)]]
-        }
-        Clause::FreeGroupsInOwnWords => vec![
-            vec![
-                (FREE_GROUPS + 2, 8),
-                (FREE_GROUPS + 3, 4),
-                (CONNECTIONS + 2, 8),
-                (CONNECTIONS + 3, 4),
-            ],
-            vec![(FREE_GROUPS, 12)],
-        ],
-        Clause::FreeGroupsCover => vec![
-            vec![(FREE_GROUPS + 4, 16)],
-            vec![(FREE_GROUPS, 1)],
-            vec![(HIDDEN, 48 + 4 + 8)],
-        ],
-        Clause::SharedAreConnected => vec![vec![(CONNECTIONS + 2, 0), (CONNECTIONS + 3, 0)]],
-        Clause::ConnectedShare => vec![vec![(FREE_GROUPS + 2, 4), (FREE_GROUPS + 3, 8)]],
-        Clause::FreeGroupsDisjoint => vec![vec![(FREE_GROUPS + 2, 4)]],
-    }
+/// A clause with changes of the base after which it fails and no other does.
+type Breach = (Clause, Vec<(usize, u64)>);
+
+/// Breaches of every clause. Disjointness follows from each group standing in
+/// its own words, so that it can't fail alone.
+fn breaches() -> Vec<Breach> {
+    [
+        breaches_of_first_words(),
+        breaches_of_contents(),
+        breaches_of_members(),
+        breaches_of_bodies(),
+        breaches_of_connections(),
+        breaches_of_free_groups(),
+    ]
+    .concat()
+}
+
+fn breaches_of_first_words() -> Vec<Breach> {
+    vec![
+        (Clause::RosterSizeInRange, vec![(0, 0)]),
+        (Clause::RosterSizeInRange, vec![(0, 65)]),
+        (Clause::RosterSizeInRange, vec![(0, u64::MAX)]),
+        (Clause::GroupCountInRange, vec![(2, 33)]),
+        (Clause::GroupCountInRange, vec![(2, 1 << 63)]),
+        (Clause::HiddenOnRoster, vec![(HIDDEN, 48 + 64)]),
+        (Clause::HiddenOnRoster, vec![(HIDDEN, 48 + (1 << 63))]),
+        (Clause::WordThreeZero, vec![(3, 1)]),
+        (Clause::WordThreeZero, vec![(3, 1 << 63)]),
+    ]
+}
+
+fn breaches_of_contents() -> Vec<Breach> {
+    let full = (0..32).map(|i| (BODIES + i, entry(1 + i as u64, i as u64)));
+    let one_more = full.chain([(CONTENTS, 5 + 33 * 65_536)]).collect();
+    vec![
+        (Clause::GroupNameInRange, vec![(CONTENTS, 2 * 65_536)]),
+        (Clause::NameCountInRange, one_more),
+        (Clause::GroupNamesAscend, vec![(CONTENTS, 10 + 2 * 65_536)]),
+        (Clause::GroupNamesAscend, vec![(CONTENTS + 1, 4)]),
+        (Clause::GroupNamesDistinct, vec![(CONTENTS + 1, 5)]),
+        (Clause::UnusedContentsZero, vec![(CONTENTS + 2, 11)]),
+        (Clause::UnusedContentsZero, vec![(CONTENTS + 31, 1)]),
+    ]
+}
+
+fn breaches_of_members() -> Vec<Breach> {
+    let unconnected = vec![(CONNECTIONS, 16), (CONNECTIONS + 1, 0)];
+    vec![
+        (Clause::GroupHasMember, vec![(MEMBERS + 1, 0)]),
+        (Clause::MembersOnRoster, vec![(MEMBERS, 3 + 64)]),
+        (Clause::MembersOnRoster, vec![(MEMBERS + 1, 2 + (1 << 63))]),
+        (Clause::UnusedMembersZero, vec![(MEMBERS + 2, 1)]),
+        (Clause::UnusedMembersZero, vec![(MEMBERS + 31, 1)]),
+        (Clause::MembersConnected, unconnected),
+    ]
+}
+
+fn breaches_of_bodies() -> Vec<Breach> {
+    let (first, second) = (BODIES, BODIES + 1);
+    let last_pid = u64::from(u32::MAX);
+    vec![
+        (Clause::ProcessNameInRange, vec![(first, 67_108_865)]),
+        (
+            Clause::ProcessNamesAscend,
+            vec![(first, entry(72, 67_108_865))],
+        ),
+        (Clause::ProcessNamesAscend, vec![(second, entry(69, 7))]),
+        (Clause::ProcessNamesDistinct, vec![(second, entry(70, 7))]),
+        (Clause::PidsDistinct, vec![(second, entry(71, 67_108_865))]),
+        (
+            Clause::HostsOnRoster,
+            vec![(second, entry(71, 6 * 67_108_864))],
+        ),
+        (Clause::HostsOnRoster, vec![(first, entry(70, last_pid))]),
+        (Clause::UnusedBodiesZero, vec![(BODIES + 2, entry(72, 8))]),
+        (Clause::UnusedBodiesZero, vec![(BODIES + BODY - 1, 1)]),
+        (Clause::UnusedBodiesZero, vec![(BODIES + BODY, entry(1, 1))]),
+        (Clause::UnusedBodiesZero, vec![(BODIES + 2 * BODY, 1)]),
+        (Clause::UnusedBodiesZero, vec![(WORDS - 1, 1)]),
+    ]
+}
+
+fn breaches_of_connections() -> Vec<Breach> {
+    vec![
+        (Clause::ConnectionsOnRoster, vec![(CONNECTIONS + 4, 1 + 64)]),
+        (Clause::UnusedConnectionsZero, vec![(CONNECTIONS + 6, 1)]),
+        (Clause::UnusedConnectionsZero, vec![(CONNECTIONS + 63, 1)]),
+        (Clause::ConnectionsMutual, vec![(CONNECTIONS + 5, 1)]),
+        (Clause::ConnectionsMutual, vec![(CONNECTIONS + 4, 0)]),
+        (Clause::NoSelfConnection, vec![(CONNECTIONS + 5, 32)]),
+        (Clause::NoSelfConnection, vec![(CONNECTIONS + 2, 8 + 4)]),
+    ]
+}
+
+fn breaches_of_free_groups() -> Vec<Breach> {
+    let pair = |part: usize, two: u64, three: u64| vec![(part + 2, two), (part + 3, three)];
+    let swapped = [pair(FREE_GROUPS, 8, 4), pair(CONNECTIONS, 8, 4)].concat();
+    let too_wide = pair(FREE_GROUPS, 12 + 64, 12 + 64);
+    vec![
+        (Clause::FreeGroupsOnRoster, too_wide),
+        (Clause::UnusedFreeWordsZero, vec![(FREE_GROUPS + 6, 64)]),
+        (Clause::UnusedFreeWordsZero, vec![(FREE_GROUPS + 63, 1)]),
+        (Clause::FreeGroupsInOwnWords, swapped),
+        (Clause::FreeGroupsInOwnWords, vec![(FREE_GROUPS, 12)]),
+        (Clause::FreeGroupsCover, vec![(FREE_GROUPS + 4, 16)]),
+        (Clause::FreeGroupsCover, vec![(FREE_GROUPS, 1)]),
+        (Clause::FreeGroupsCover, vec![(HIDDEN, 48 + 4 + 8)]),
+        (Clause::SharedAreConnected, pair(CONNECTIONS, 0, 0)),
+        (Clause::ConnectedShare, pair(FREE_GROUPS, 4, 8)),
+        (Clause::FreeGroupsDisjoint, vec![(FREE_GROUPS + 2, 4)]),
+    ]
 }
 
 /// The clauses that fail together after the hand-made changes, where it isn't
@@ -156,12 +192,12 @@ fn failing_together(clause: Clause) -> BTreeSet<Clause> {
 
 #[test]
 fn each_clause_fails_alone_on_a_table_made_for_it() {
-    for clause in Clause::ALL {
-        for edits in edits_for(clause) {
-            let failing = failing_clauses(&edited(&edits));
-            assert_eq!(failing, failing_together(clause), "{clause:?} {edits:?}");
-        }
+    for (clause, edits) in breaches() {
+        let failing = failing_clauses(&edited(&edits));
+        assert_eq!(failing, failing_together(clause), "{clause:?} {edits:?}");
     }
+    let breached: BTreeSet<Clause> = breaches().iter().map(|(clause, _)| *clause).collect();
+    assert_eq!(breached, BTreeSet::from(Clause::ALL));
 }
 
 /// A second reading of soundness: the words are those of a well formed state.
@@ -172,10 +208,8 @@ fn words_of_a_well_formed_state(words: &[u64]) -> bool {
 #[test]
 fn the_hand_made_tables_are_no_words_of_a_state() {
     assert!(words_of_a_well_formed_state(&base()));
-    for clause in Clause::ALL {
-        for edits in edits_for(clause) {
-            assert!(!words_of_a_well_formed_state(&edited(&edits)), "{clause:?}");
-        }
+    for (clause, edits) in breaches() {
+        assert!(!words_of_a_well_formed_state(&edited(&edits)), "{clause:?}");
     }
 }
 

@@ -50,7 +50,7 @@ enum sgroup_reason {
     SGROUP_CALLER_UNKNOWN = 4,    /* the caller isn't on the roster */
     SGROUP_GROUP_NAME_RANGE = 5,  /* s_group name out of range */
     SGROUP_NAME_ZERO = 6,         /* process name zero */
-    SGROUP_NODE_UNKNOWN = 7,      /* a node given, or a given pid's host, isn't on the roster */
+    SGROUP_NODE_UNKNOWN = 7,      /* a node or a pid's host isn't on the roster */
     SGROUP_GROUP_UNKNOWN = 8,     /* no s_group of that name */
     SGROUP_NOT_MEMBER = 9,        /* the asking node is not a member */
     SGROUP_NAME_TAKEN = 10,       /* name already registered there */
@@ -66,7 +66,7 @@ enum sgroup_reason {
 /* Whether the run is a sound table. Writes nothing. */
 bool sgroup_is_sound(const uint64_t *table, size_t table_len);
 
-/* Opens the table for n nodes, 1 to 64, some of them hidden: no s_groups, no connections, each normal node alone in its free group.
+/* Opens the table for n nodes, 1 to 64, some of them hidden: nobody is grouped or connected, and every normal node is a free group by itself.
  * OK; the table may hold anything before. Reasons 1, 2 and 7: ERROR, nothing is written to the table. */
 uint32_t sgroup_open(uint64_t *table, size_t table_len, uint32_t n, uint64_t hidden, uint64_t *answer, size_t answer_len);
 

@@ -324,7 +324,7 @@ transition own-s-groups ni X = gives (Snis (cond (IsSGroupNode ni (X .grs)) (Out
 
 -- ---- opening (01)
 
--- N nodes, those of nis hidden: no s_groups, no connections, each normal node alone in its free group
+-- N nodes, those of nis hidden: nobody is grouped or connected, and every normal node is a free group by itself
 abbrev pub Opening : ℕ → Set → Published
 Opening N nis =
     record {

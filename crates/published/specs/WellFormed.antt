@@ -45,7 +45,7 @@ pub record WellFormed (X : Published) : Type 0 where
   pub few-groups : count group-names (λ s. held (X .grs s)) ≤ group-limit
   pub groups : (s : ℕ) (g : SGroup) → X .grs s ≡ some g → Fair-group X size s g
   pub gr-names-are : (ni : ℕ) (nd : Node) → X .nds ni ≡ some nd → nd .gr-names ≡ names-seen ni (X .grs)
-  -- connections are mutual, and no node connects to itself
+  -- a connection goes both ways, and never from a node to itself
   pub both-ways : (ni ni′ : ℕ) → connected ni ni′ X ≡ connected ni′ ni X
   pub no-self : (ni : ℕ) → connected ni ni X ≡ false
   -- the free hidden groups are the hidden nodes in no s_group

@@ -89,7 +89,7 @@ pub joining-all :
 unfolding computing
 joining-all = record { ours-is = refl; wrong-is = refl; differ = λ e. let z : _≡_ {A = ℕ} 31 7 = ap (λ (t : List ℕ). getD t free-at 0) e in omega arith }
 
--- ---- 3. a free node's link to an s_group node or a hidden node merges groups
+-- ---- 3. groups merge by the link of a free node with a grouped or hidden one
 
 -- the free group of node i, or the node alone
 abbrev pub group-at : ℕ → State → ℕ

@@ -91,7 +91,7 @@ pub record Sound (cap : ℕ) (t : List ℕ) : Type 0 where
   pub groups-ascend : (g h : ℕ) → g < h → h < count-of t → name-of t g < name-of t h
   -- each group has a member
   pub manned : (g : ℕ) → g < count-of t → members-of t g ≢ 0
-  -- registered names in a group number at most cap, ascend, are distinct, have distinct pids and hosts on the roster
+  -- a namespace has at most cap names, in ascending order; no pid stands twice, and each lives on a node of the roster
   pub names-few : (g : ℕ) → g < count-of t → names-of t g ≤ cap
   pub names-ascend : (g j k : ℕ) → g < count-of t → j < k → k < names-of t g → process-of cap t g j < process-of cap t g k
   pub pids-distinct : (g j k : ℕ) → g < count-of t → j < k → k < names-of t g → pid-of cap t g j ≢ pid-of cap t g k
@@ -109,7 +109,7 @@ pub record Sound (cap : ℕ) (t : List ℕ) : Type 0 where
   pub free-zero : (i : ℕ) → size-of t ≤ i → i < node-limit → free-of t i ≡ 0
   pub names-zero : (g k : ℕ) → g < count-of t → names-of t g ≤ k → k < cap → entry-of cap t g k ≡ 0
   pub bodies-zero : (g k : ℕ) → count-of t ≤ g → g < group-limit → k < cap → entry-of cap t g k ≡ 0
-  -- connections are mutual and no node connects to itself
+  -- a connection goes both ways, and never from a node to itself
   pub both-ways : (i j : ℕ) → i < size-of t → j < size-of t → In j (links-of t i) → In i (links-of t j)
   pub not-itself : (i : ℕ) → i < size-of t → In i (links-of t i) → ⊥
   -- members of one s_group are all connected
@@ -119,5 +119,5 @@ pub record Sound (cap : ℕ) (t : List ℕ) : Type 0 where
   pub only-free : (i : ℕ) → i < node-limit → (Free-normal t i → ⊥) → free-of t i ≡ 0
   -- each stands in the words of its own nodes, so that they are disjoint
   pub own-words : (i j : ℕ) → i < node-limit → In j (free-of t i) → free-of t j ≡ free-of t i
-  -- two different free normal nodes share a group exactly when they are connected
+  -- of two free normal nodes: one group where they are connected, two where not
   pub shared : (i j : ℕ) → Free-normal t i → Free-normal t j → i ≢ j → has (free-of t i) j ≡ has (links-of t i) j

@@ -328,6 +328,6 @@ step room i c st = cond (leb (st .size) i) (error CallerUnknown st) (rule room i
 abbrev pub each-alone : ℕ → ℕ → List ℕ
 each-alone N hidden = mapi (λ i x. cond (ltb i N && not (has hidden i)) (single i) 0) 0 (replicate node-limit 0)
 
--- opening: no s_groups, no connections, each normal node alone in its free group
+-- opening: nobody is grouped or connected, and every normal node is a free group by itself
 unfoldable pub opened : ℕ → ℕ → State
 opened N hidden = record { size = N; hidden = hidden; groups = []; links = replicate node-limit 0; free = each-alone N hidden }

@@ -61,7 +61,7 @@ met links g = alli (λ i l. cond (has (g .members) i) (subset (diff (g .members)
 abbrev pub freely : ℕ → ℕ → ℕ → ℕ
 freely F i l = cond (has F i) (union (inter l F) (single i)) 0
 
--- ranges; s_groups; connections within the roster, mutual, between all members; free groups, each in the words of its own nodes
+-- ranges; s_groups; connections within the roster, mutual, between all members; free groups, each written at all of its nodes
 abbrev pub state-tests : ℕ → State → List Bool
 state-tests cap st =
     leb 1 (st .size) ∷ leb (st .size) node-limit ∷ not (beyond (st .hidden) (st .size))

@@ -79,7 +79,7 @@ pub extern "C" fn sgroup_is_sound(table: &[u64]) -> bool
     table::is_sound(table)
 }
 
-// Opens the table for n nodes, some of them hidden: no s_groups, no connections, each normal node alone in its free group.
+// Opens the table for n nodes, some of them hidden: nobody is grouped or connected, and every normal node is a free group by itself.
 #[no_mangle]
 pub extern "C" fn sgroup_open(table: &mut [u64], n: u32, hidden: u64, answer: &mut [u64]) -> u32
     ensures { λ r. ⌜ r ≡ told (opening n hidden (now (table .entry))) (now (answer .entry)) [] (now (table .entry)) .returned ⌝ }

@@ -131,7 +131,7 @@ fn refusal(reason: Reason) -> Answer
     }
 }
 
-// Opens the table for n nodes, some of them hidden: no s_groups, no connections, each normal node alone in its free group.
+// Opens the table for n nodes, some of them hidden: nobody is grouped or connected, and every normal node is a free group by itself.
 pub fn open(t: &mut [u64], n: u32, hidden: u64) -> Answer
     ensures { λ r. ⌜ r ≡ opening n hidden (now (t .entry)) .answer ⌝ }
     ensures { λ _. ⌜ now (t .exit) ≡ opening n hidden (now (t .entry)) .table ⌝ }

@@ -27,6 +27,7 @@ set-form w f = record { word = w; arguments = 2; takes-set = true; command = λ 
 abbrev pub last-form : Form
 last-form = narrow-form (bytes "own_s_groups") 0 (λ a b c. own-s-groups)
 
+-- the fifteen commands in 01's order
 unfoldable pub forms : List Form
 forms =
     narrow-form (bytes "register_name") 3 (λ s n p. within (register-name s n p))
@@ -51,6 +52,7 @@ unfoldable pub number-from : ℕ → List ℕ → ℕ → List Form → ℕ
 number-from k w n [] = 0
 number-from k w n (f ∷ fs) = cond (same w (f .word) && eqb n (f .arguments)) k (number-from (suc k) w n fs)
 
+-- the number of the command with this word and so many arguments
 unfoldable pub number-of : List ℕ → ℕ → ℕ
 number-of w n = number-from 1 w n forms
 

@@ -8,17 +8,19 @@ use Rattle.line.specs.declared.number.Number.the-variants as Number
 use Rattle.line.specs.declared.number.Half.{Half}
 use Rattle.line.specs.declared.number.Half.the-variants as Half
 
--- the digit 0 in ASCII, and the digit 9
+-- the digit 0 in ASCII
 abbrev pub digit-0 : ℕ
 digit-0 = 48
 
+-- the digit 9
 abbrev pub digit-9 : ℕ
 digit-9 = 57
 
--- numbers of 64 bits lie below this, and numbers of 32 bits below the next
+-- numbers of 64 bits lie below this
 abbrev pub word-limit : ℕ
 word-limit = 2 ^ 64
 
+-- numbers of 32 bits
 abbrev pub half-limit : ℕ
 half-limit = 2 ^ 32
 

@@ -12,9 +12,11 @@ abbrev pub bytes : String → List ℕ
 bytes Text.[] = []
 bytes (Text._∷_ c cs) = code c ∷ bytes cs
 
+-- the byte between two fields
 abbrev pub space : ℕ
 space = 32
 
+-- the byte that ends a line
 abbrev pub newline : ℕ
 newline = 10
 

@@ -10,6 +10,7 @@ pub record Sheet : Type 0 where
   pub bytes : List ℕ
   pub at : ℕ
 
+-- a run of bytes, printed on up to a place
 unfoldable pub sheet : List ℕ → ℕ → Sheet
 sheet l i = record { bytes = l; at = i }
 

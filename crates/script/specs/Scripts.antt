@@ -77,6 +77,7 @@ request-turn t (Open N hidden) = told (opening N hidden t)
 request-turn t (Command number caller a b c set) = told (call list-room caller (command-of number a b c set) t)
 request-turn t Unfit = says bad-line t
 
+-- a line asks for what its bytes say; one without a newline is bad; a script that is too long only says so
 unfoldable pub line-turn : List ℕ → Line → Turn
 line-turn t (ended l) = request-turn t (request-of l)
 line-turn t (cut l) = says bad-line t
@@ -104,6 +105,7 @@ pub record Stop : Type 0 where
   pub table : List ℕ
   pub sheet : Sheet
 
+-- it stops at the place i, with the table t and the sheet p
 unfoldable pub stop : ℕ → List ℕ → Sheet → Stop
 stop i t p = record { next = i; table = t; sheet = p }
 

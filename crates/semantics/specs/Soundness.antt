@@ -56,10 +56,11 @@ free-of t i = word t (free-at + i)
 abbrev pub entry-of : ℕ → List ℕ → ℕ → ℕ → ℕ
 entry-of cap t g k = word t (bodies-at + (cap * g + k))
 
--- the process name and the pid in it
+-- the process name in it
 abbrev pub process-of : ℕ → List ℕ → ℕ → ℕ → ℕ
 process-of cap t g k = entry-of cap t g k / half-word
 
+-- the pid in it
 abbrev pub pid-of : ℕ → List ℕ → ℕ → ℕ → ℕ
 pid-of cap t g k = entry-of cap t g k % half-word
 
@@ -79,6 +80,7 @@ pub record Free-normal (t : List ℕ) (i : ℕ) : Type 0 where
   pub normal : In i (hidden-of t) → ⊥
   pub in-none : (g : ℕ) → g < count-of t → In i (members-of t g) → ⊥
 
+-- the run is a sound table, with cap names an s_group
 pub record Sound (cap : ℕ) (t : List ℕ) : Type 0 where
   -- the run has the table's length
   pub long : length t ≡ table-words cap

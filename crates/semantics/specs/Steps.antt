@@ -93,6 +93,7 @@ pub record Result : Type 0 where
 abbrev pub reply : Value → Reason → State → Result
 reply v r st = record { answer = answer-of v r; list = []; next = st }
 
+-- an error that changes nothing
 abbrev pub error : Reason → State → Result
 error r st = reply Error r st
 
@@ -156,6 +157,7 @@ abbrev pub pid-or-undefined : Option ℕ → Value
 pid-or-undefined none = Undefined
 pid-or-undefined (some p) = Pid p
 
+-- and its reason
 abbrev pub look-reason : Option ℕ → Reason
 look-reason none = NotRegistered
 look-reason (some p) = Done
@@ -238,9 +240,11 @@ pub record Looked : Type 0 where
   pub found : Option ℕ
   pub reason : Reason
 
+-- a lookup by a member
 abbrev pub looked : Option ℕ → Looked
 looked o = record { found = o; reason = look-reason o }
 
+-- a lookup that finds nothing, for this reason
 abbrev pub nothing-found : Reason → Looked
 nothing-found r = record { found = none; reason = r }
 

@@ -18,10 +18,11 @@ answer-words = 4
 abbrev pub no-room : ℕ
 no-room = 4294967295
 
--- the numbers of a value; zero where it has none
+-- the first number of a value; zero where it has none
 abbrev pub first : Value → ℕ
 first v = getD (numbers v) 0 0
 
+-- the second
 abbrev pub second : Value → ℕ
 second v = getD (numbers v) 1 0
 

@@ -1,27 +1,23 @@
 -- The request that a line is. Assumes nothing.
 use mathlib.Core.Bool.{Bool, cond}
-use mathlib.Core.List.{List, []}
+use mathlib.Core.List.{List}
 use Prim.Native.Nat.{ℕ, _-_}
 use lib.Dec.{eqb, leb}
-use lib.ListN.{length, getD}
+use lib.ListN.{length}
 use Rattle.semantics.specs.Test.{same}
-use Rattle.line.specs.Text.{bytes, fields}
-use Rattle.line.specs.Numbers.{numeral, narrow}
-use Rattle.line.specs.Commands.{number-of, takes-set}
-use Rattle.line.specs.declared.number.Number.{Number}
-use Rattle.line.specs.declared.number.Number.the-variants as Number
-use Rattle.line.specs.declared.number.Half.{Half}
-use Rattle.line.specs.declared.number.Half.the-variants as Half
+use Rattle.fields.specs.Text.{bytes, fields, field}
+use Rattle.numeral.specs.Numbers.{numeral, narrow}
+use Rattle.words.specs.Commands.{number-of, takes-set}
+use Rattle.numeral.specs.declared.Number.{Number}
+use Rattle.numeral.specs.declared.Number.the-variants as Number
+use Rattle.numeral.specs.declared.Half.{Half}
+use Rattle.numeral.specs.declared.Half.the-variants as Half
 use Rattle.line.specs.declared.Request.{Request}
 use Rattle.line.specs.declared.Request.the-variants.{Open, Command, Unfit}
 
 -- a line holds at most this many bytes before its newline
 abbrev pub line-limit : ℕ
 line-limit = 120
-
--- field i, counted from 0; empty where there are fewer
-abbrev pub field : ℕ → List (List ℕ) → List ℕ
-field i fs = getD fs i []
 
 -- the number in field i, which is 0 where there are fewer
 unfoldable pub number-in : ℕ → List (List ℕ) → Number

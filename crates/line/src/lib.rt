@@ -1,15 +1,10 @@
 // A line of a script becomes a request.
 ghost use mathlib.Core.Path.{_≡_};
 ghost use lib.ListN.{length};
-ghost use Rattle.line.specs.Text.{find-in, fields};
+ghost use Rattle.fields.specs.Text.{fields};
 ghost use Rattle.line.specs.Requests.{number-in, open-with, open-line, command-with, command-by, numbered-line, command-line, request-of};
-
-mod fields;
-mod number;
-mod words;
-
-use number::Half;
-use number::Number;
+use numeral::Half;
+use numeral::Number;
 
 // What a script line asks for.
 pub enum Request {
@@ -30,20 +25,6 @@ pub enum Request {
 // A line holds at most this many bytes before its newline.
 const LINE_LIMIT: usize = 120;
 
-// The place of the first b in s, or the length of s where there is none.
-pub fn find(s: &[u8], b: u8) -> usize
-    ensures { λ r. ⌜ r ≡ find-in b (now (s .entry)) ⌝ }
-{
-    let mut i = 0;
-    while i < s.len() {
-        if s[i] == b {
-            return i;
-        }
-        i += 1;
-    }
-    i
-}
-
 // The number in field i of a line of so many fields, which is 0 where there are fewer.
 fn number_in(s: &[u8], count: usize, i: usize) -> Number
     requires { ⌜ count ≡ length (fields (now s)) ⌝ }
@@ -52,7 +33,7 @@ fn number_in(s: &[u8], count: usize, i: usize) -> Number
     if count <= i {
         return Number::Is(0);
     }
-    number::numeral(fields::field(s, i))
+    numeral::numeral(fields::field(s, i))
 }
 
 // Opening, where both are numbers of their widths.
@@ -76,8 +57,8 @@ fn open_line(s: &[u8], count: usize) -> Request
     if count != 3 {
         return Request::Unfit;
     }
-    let n = number::narrow(number::numeral(fields::field(s, 1)));
-    let hidden = number::numeral(fields::field(s, 2));
+    let n = numeral::narrow(numeral::numeral(fields::field(s, 1)));
+    let hidden = numeral::numeral(fields::field(s, 2));
     open_with(n, hidden)
 }
 
@@ -121,13 +102,13 @@ fn command_by(
 ) -> Request
     ensures { λ r. ⌜ r ≡ command-by «takes_set» number caller a b c ⌝ }
 {
-    let i = number::narrow(caller);
-    let x = number::narrow(a);
-    let z = number::narrow(c);
+    let i = numeral::narrow(caller);
+    let x = numeral::narrow(a);
+    let z = numeral::narrow(c);
     if takes_set {
         return command_with(number, i, x, Half::Is(0), z, b);
     }
-    let y = number::narrow(b);
+    let y = numeral::narrow(b);
     command_with(number, i, x, y, z, Number::Is(0))
 }
 

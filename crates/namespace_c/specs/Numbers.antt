@@ -1,9 +1,9 @@
 -- The answers of a namespace as numbers, for callers in C and Rust. Assumes nothing.
 use Prim.Native.Nat.{ℕ}
-use Rattle.namespace.specs.declared.Found.{Found}
-use Rattle.namespace.specs.declared.Found.the-variants as F
-use Rattle.namespace.specs.declared.Change.{Change}
-use Rattle.namespace.specs.declared.Change.the-variants as C
+use Rattle.entries.specs.declared.Found.{Found}
+use Rattle.entries.specs.declared.Found.the-variants as F
+use Rattle.entries.specs.declared.Change.{Change}
+use Rattle.entries.specs.declared.Change.the-variants as C
 
 -- a search: the pid; 2^32 where the name is not held, 2^32 + 1 where the count is past the end
 abbrev pub found-number : Found → ℕ

@@ -1,9 +1,9 @@
 // The crate `namespace` for C and Rust, with numbers for its answers. A slice is passed as a pointer and a length.
-use namespace::Change;
-use namespace::Found;
+use entries::Change;
+use entries::Found;
 ghost use mathlib.Core.Path.{_≡_};
-ghost use Rattle.namespace.specs.Raw.{found, change-of, add-answer, added, dropped};
-ghost use Rattle.namespace.specs.Soundness.{sound-words};
+ghost use Rattle.entries.specs.Raw.{found, change-of, add-answer, added, dropped};
+ghost use Rattle.entries.specs.Soundness.{sound-words};
 ghost use Rattle.namespace_c.specs.Numbers.{found-number, change-number};
 
 // The answers to a search that are no pid.
@@ -39,7 +39,7 @@ fn of_change(answer: Change) -> u32
 pub extern "C" fn namespace_find(ns: &[u64], count: usize, name: u32) -> u64
     ensures { λ r. ⌜ r ≡ found-number (found count name (now (ns .entry))) ⌝ }
 {
-    of_found(namespace::find(ns, count, name))
+    of_found(search::find(ns, count, name))
 }
 
 // `namespace::add`: 0 done, 2 full, 3 the count is past the end.
@@ -60,10 +60,10 @@ pub extern "C" fn namespace_drop_name(ns: &mut [u64], count: usize, name: u32) -
     of_change(namespace::drop_name(ns, count, name))
 }
 
-// `namespace::is_sound`.
+// `distinct::is_sound`.
 #[no_mangle]
 pub extern "C" fn namespace_is_sound(ns: &[u64], count: usize, size: u32) -> bool
     ensures { λ r. ⌜ r ≡ sound-words size count (now (ns .entry)) ⌝ }
 {
-    namespace::is_sound(ns, count, size)
+    distinct::is_sound(ns, count, size)
 }

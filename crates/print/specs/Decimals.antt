@@ -15,7 +15,7 @@ use Rattle.semantics.specs.Answers.{word, numbers, number}
 use Rattle.semantics.specs.declared.Answer.{Answer}
 use Rattle.semantics.specs.declared.Value.{Value}
 use Rattle.semantics.specs.declared.Value.the-variants.{Ok, True, False, Error, Undefined, Pid, Grouped, Nodes, Listed}
-use Rattle.line.specs.Text.{newline}
+use Rattle.fields.specs.Text.{newline}
 use Rattle.print.specs.Sheets.{Sheet, put}
 use Rattle.print.specs.Lines.{decimal-in, decimal, spaced, answer-line}
 use Rattle.print.specs.Putting.{put-append, put-next}

@@ -5,8 +5,8 @@ use Prim.Native.Nat.{ℕ, zero, suc, _+_, _/_, _%_}
 use lib.Dec.{ltb}
 use Rattle.semantics.specs.Answers.{word, numbers, number}
 use Rattle.semantics.specs.declared.Answer.{Answer}
-use Rattle.line.specs.Text.{bytes, space}
-use Rattle.line.specs.Numbers.{digit-0}
+use Rattle.fields.specs.Text.{bytes, space}
+use Rattle.numeral.specs.Numbers.{digit-0}
 
 -- n in decimal, in at most k + 1 digits
 unfoldable pub decimal-in : ℕ → ℕ → List ℕ

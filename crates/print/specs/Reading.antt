@@ -7,10 +7,10 @@ use native.Mathlib.Nat.{pow-suc}
 use native.Mathlib.Omega.{arith}
 use borrow.Author.Tests.{le-leb, lt-ltb, ltb-true, ltb-false, ne-eqb}
 use lib.Dec.{ltb}
-use Rattle.line.specs.Numbers.{digit-0, word-limit, plain, numeral}
-use Rattle.line.specs.Digits.{more, more-of, digits-from, numeral-by-digits}
-use Rattle.line.specs.declared.number.Number.{Number}
-use Rattle.line.specs.declared.number.Number.the-variants.{Is}
+use Rattle.numeral.specs.Numbers.{digit-0, word-limit, plain, numeral}
+use Rattle.numeral.specs.Digits.{more, more-of, digits-from, numeral-by-digits}
+use Rattle.numeral.specs.declared.Number.{Number}
+use Rattle.numeral.specs.declared.Number.the-variants.{Is}
 use Rattle.print.specs.Lines.{decimal-in, decimal}
 
 -- one digit more

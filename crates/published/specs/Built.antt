@@ -11,9 +11,9 @@ use lib.ListN.{getD}
 use borrow.Author.Tests.{eqb-true, ltb-true}
 use Rattle.nodes.specs.Sets.{node-limit, has}
 use Rattle.nodes.specs.Laws.{has-none, has-ext}
-use Rattle.namespace.specs.Entries.{Entry, half-word, lookup, holds-pid}
-use Rattle.namespace.specs.Soundness as Namespace
-use Rattle.namespace.specs.Soundness.{Ascending, Distinct, Hosted}
+use Rattle.entries.specs.Entries.{Entry, half-word, lookup, holds-pid}
+use Rattle.entries.specs.Soundness as Namespace
+use Rattle.entries.specs.Soundness.{Ascending, Distinct, Hosted}
 use Rattle.semantics.specs.Sizes.{names-per-group, group-names}
 use Rattle.semantics.specs.State.{Group, State, find, all-members}
 use Rattle.semantics.specs.Commands.{held}

@@ -13,7 +13,7 @@ use borrow.Author.Tests.{lt-ltb, le-ltb}
 use Rattle.nodes.specs.Sets.{has}
 use Rattle.nodes.specs.Bools.{by-lt, and-follows}
 use Rattle.nodes.specs.Laws.{has-ext, has-below}
-use Rattle.namespace.specs.Laws.{lookups-determine}
+use Rattle.entries.specs.Laws.{lookups-determine}
 use Rattle.semantics.specs.Sizes.{names-per-group, group-names}
 use Rattle.semantics.specs.State.{Group, State, find}
 use Rattle.semantics.specs.Table.{state-of}

@@ -13,10 +13,10 @@ use borrow.Author.Tests.{eqb-true, eq-eqb, ne-eqb, lt-ltb}
 use Rattle.nodes.specs.Sets.{has}
 use Rattle.nodes.specs.Bools.{by-eq, and-follows}
 use Rattle.nodes.specs.Laws.{has-below}
-use Rattle.namespace.specs.Entries.{Entry, half-word, lookup}
-use Rattle.namespace.specs.Soundness as Namespace
-use Rattle.namespace.specs.Soundness.{Ascending, Distinct}
-use Rattle.namespace.specs.Laws.{holds-pid-lookup}
+use Rattle.entries.specs.Entries.{Entry, half-word, lookup}
+use Rattle.entries.specs.Soundness as Namespace
+use Rattle.entries.specs.Soundness.{Ascending, Distinct}
+use Rattle.entries.specs.Laws.{holds-pid-lookup}
 use Rattle.semantics.specs.Sizes.{names-per-group}
 use Rattle.semantics.specs.State.{Group, State, find}
 use Rattle.semantics.specs.Table.{state-of}

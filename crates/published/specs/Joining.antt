@@ -8,7 +8,7 @@ use lib.Dec.{eqb, leb}
 use borrow.Author.Tests.{eqb-true, eq-eqb, leb-false}
 use Rattle.nodes.specs.Sets.{node-limit, has, union, beyond}
 use Rattle.nodes.specs.Laws.{has-union, union-lt}
-use Rattle.namespace.specs.Entries.{lookup}
+use Rattle.entries.specs.Entries.{lookup}
 use Rattle.semantics.specs.Sizes.{group-limit, group-names}
 use Rattle.semantics.specs.State.{Group, State, with-groups, with-links, with-free, find, put, add-group}
 use Rattle.semantics.specs.Commands.{within, add-nodes, new-s-group, held}

@@ -12,7 +12,7 @@ use lib.ListN.{length, getD}
 use borrow.Author.Tests.{eqb-true, eq-eqb, ltb-true, lt-ltb, not-true}
 use Rattle.nodes.specs.Sets.{node-limit, has, empty, union, inter, diff}
 use Rattle.nodes.specs.Laws.{has-union, has-inter, has-diff, has-none, has-below, below-pow, union-lt, inter-le-l, inter-le-r, diff-le}
-use Rattle.namespace.specs.Entries.{lookup}
+use Rattle.entries.specs.Entries.{lookup}
 use Rattle.semantics.specs.State.{Group, State, free-of, find, put, drop-group, all-members}
 use Rattle.semantics.specs.Commands.{held}
 use Rattle.semantics.specs.Steps.{lot, touched, become-free, left-in}

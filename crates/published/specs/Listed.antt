@@ -11,7 +11,7 @@ use lib.Arith.{digits-div, digits-mod}
 use borrow.Author.Tests.{eq-eqb, ne-eqb}
 use Rattle.nodes.specs.Sets.{node-limit}
 use Rattle.nodes.specs.Bools.{by-eq}
-use Rattle.namespace.specs.Entries.{half-word}
+use Rattle.entries.specs.Entries.{half-word}
 use Rattle.semantics.specs.Sizes.{group-names}
 use Rattle.published.specs.Published.{Set, Map, of-some}
 use Rattle.published.specs.Seen.{word, runs, name-words, group-words}

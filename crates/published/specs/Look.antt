@@ -12,7 +12,7 @@ use borrow.Author.Tests.{eqb-true, eqb-false, eq-eqb, ne-eqb}
 use Rattle.nodes.specs.Sets.{has, union-all, word-at}
 use Rattle.nodes.specs.Bools.{by-test, by-eq}
 use Rattle.nodes.specs.Laws.{has-none, has-union}
-use Rattle.namespace.specs.Entries.{Entry, lookup}
+use Rattle.entries.specs.Entries.{Entry, lookup}
 use Rattle.semantics.specs.Sizes.{group-names}
 use Rattle.semantics.specs.State.{Group, find, become, put, add-group, drop-group, all-members}
 use Rattle.semantics.specs.Commands.{held}

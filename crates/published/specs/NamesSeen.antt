@@ -10,9 +10,9 @@ use lib.Dec.{eqb}
 use lib.ListN.{length}
 use borrow.Author.Tests.{eqb-true, eq-eqb, ne-eqb}
 use Rattle.nodes.specs.Bools.{by-eq}
-use Rattle.namespace.specs.Entries.{Entry, half-word, insert, remove, lookup, holds-pid}
-use Rattle.namespace.specs.Soundness.{Ascending}
-use Rattle.namespace.specs.Laws.{lookup-insert-same, lookup-insert-other, lookup-remove-same, lookup-remove-other, holds-pid-lookup}
+use Rattle.entries.specs.Entries.{Entry, half-word, insert, remove, lookup, holds-pid}
+use Rattle.entries.specs.Soundness.{Ascending}
+use Rattle.entries.specs.Laws.{lookup-insert-same, lookup-insert-other, lookup-remove-same, lookup-remove-other, holds-pid-lookup}
 use Rattle.semantics.specs.Sizes.{group-names}
 use Rattle.semantics.specs.Commands.{held}
 use Rattle.semantics.specs.Steps.{name-words}

@@ -8,9 +8,9 @@ use lib.Dec.{eqb, leb, ltb}
 use lib.ListN.{length}
 use borrow.Author.Tests.{eqb-true}
 use Rattle.nodes.specs.Sets.{has, word-at}
-use Rattle.namespace.specs.Entries.{Entry, half-word, host, insert, remove, lookup, holds-pid}
-use Rattle.namespace.specs.Soundness.{Ascending}
-use Rattle.namespace.specs.Laws.{lookup-remove-same}
+use Rattle.entries.specs.Entries.{Entry, half-word, host, insert, remove, lookup, holds-pid}
+use Rattle.entries.specs.Soundness.{Ascending}
+use Rattle.entries.specs.Laws.{lookup-remove-same}
 use Rattle.semantics.specs.Sizes.{group-names}
 use Rattle.semantics.specs.State.{Group, State, find, put}
 use Rattle.semantics.specs.Steps as W

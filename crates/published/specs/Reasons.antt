@@ -12,8 +12,8 @@ use lib.ListN.{length}
 use borrow.Author.Tests.{lt-ltb, le-ltb, le-leb, lt-leb, leb-false, eqb-true, ne-eqb}
 use Rattle.nodes.specs.Sets.{node-limit, has, beyond}
 use Rattle.nodes.specs.Bools.{by-lt}
-use Rattle.namespace.specs.Entries.{half-word, host, lookup, holds-pid}
-use Rattle.namespace.specs.Soundness.{Ascending}
+use Rattle.entries.specs.Entries.{half-word, host, lookup, holds-pid}
+use Rattle.entries.specs.Soundness.{Ascending}
 use Rattle.semantics.specs.Sizes.{group-limit, names-per-group, group-names}
 use Rattle.semantics.specs.State.{Group, State, find}
 use Rattle.semantics.specs.Steps as W

@@ -8,7 +8,7 @@ use lib.Dec.{eqb, ltb, leb}
 use lib.ListN.{length}
 use borrow.Author.Tests.{leb-false}
 use Rattle.nodes.specs.Sets.{has, beyond}
-use Rattle.namespace.specs.Entries.{host, lookup}
+use Rattle.entries.specs.Entries.{host, lookup}
 use Rattle.semantics.specs.Sizes.{group-names}
 use Rattle.semantics.specs.State.{Group, State, find}
 use Rattle.semantics.specs.Steps as W

@@ -7,7 +7,7 @@ use Prim.Native.Nat.{ℕ, zero, suc, _*_, _/_, _%_}
 use lib.Dec.{ltb}
 use lib.ListN.{length}
 use Rattle.nodes.specs.Sets.{node-limit, has, single, union, word-at}
-use Rattle.namespace.specs.Entries.{half-word, lookup}
+use Rattle.entries.specs.Entries.{half-word, lookup}
 use Rattle.semantics.specs.Sizes.{group-names, names-per-group}
 use Rattle.semantics.specs.State.{Group, State, free-of, find}
 use Rattle.semantics.specs.Table.{state-of}

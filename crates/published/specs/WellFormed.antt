@@ -7,7 +7,7 @@ use mathlib.Core.Option.{some}
 use Prim.Native.Nat.{ℕ, _≤_, _<_}
 use lib.Dec.{eqb, ltb}
 use Rattle.nodes.specs.Sets.{node-limit}
-use Rattle.namespace.specs.Entries.{half-word, host}
+use Rattle.entries.specs.Entries.{half-word, host}
 use Rattle.semantics.specs.Sizes.{group-limit, names-per-group, group-names}
 use Rattle.semantics.specs.Commands.{held}
 use Rattle.published.specs.Published.{Set, _∖_, any, Namespace, SGroup, Node, Published, those, IsSGroupNode}

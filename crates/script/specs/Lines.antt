@@ -8,11 +8,12 @@ use borrow.Author.Tests.{lt-ltb, le-ltb, le-leb, ltb-true, ltb-false}
 use lib.Dec.{ltb, eqb, leb}
 use lib.ListN.{length, take, drop, length-take, length-drop, drop-of-length-le}
 use lib.Seq.{drop-length, drop-drop}
-use Rattle.line.specs.Text.{newline, find-in}
+use Rattle.fields.specs.Text.{newline, find-in}
 use Rattle.line.specs.Requests.{request-of}
 use Rattle.line.specs.declared.Request.{Request}
 use Rattle.line.specs.declared.Request.the-variants.{Unfit}
-use Rattle.script.specs.Scripts.{script-limit, Line, ended, cut, overlong, push, lines-of, one-line, lines-from, size-of, request-turn, line-turn}
+use Rattle.turns.specs.Turns.{request-turn}
+use Rattle.script.specs.Scripts.{script-limit, Line, ended, cut, overlong, push, lines-of, one-line, lines-from, size-of, line-turn}
 
 -- ---- the first line of bytes
 

@@ -4,18 +4,11 @@ use mathlib.Core.List.{List, [], _∷_, _++_}
 use Prim.Native.Nat.{ℕ, _+_, _*_}
 use lib.Dec.{eqb, leb}
 use lib.ListN.{length, drop}
-use Rattle.semantics.specs.Call.{Call, call, opening}
-use Rattle.line.specs.Text.{newline}
-use Rattle.line.specs.Commands.{command-of}
+use Rattle.fields.specs.Text.{newline}
 use Rattle.line.specs.Requests.{request-of}
-use Rattle.line.specs.declared.Request.{Request}
-use Rattle.line.specs.declared.Request.the-variants.{Open, Command, Unfit}
 use Rattle.print.specs.Sheets.{Sheet, put}
-use Rattle.print.specs.Lines.{answer-line, bad-line, too-long}
-
--- the run that is lent for a list has so many words
-abbrev pub list-room : ℕ
-list-room = 64
+use Rattle.print.specs.Lines.{bad-line, too-long}
+use Rattle.turns.specs.Turns.{list-room, Turn, says, request-turn}
 
 -- a script has at most so many bytes
 abbrev pub script-limit : ℕ
@@ -57,25 +50,6 @@ size-of (cut l) = length l
 size-of (overlong l) = length l
 
 -- ---- what they print and leave
-
--- what is printed, and the table after it
-pub record Turn : Type 0 where
-  pub text : List ℕ
-  pub table : List ℕ
-
--- a call prints the line of its answer
-abbrev pub told : Call → Turn
-told c = record { text = answer-line (c .list) (c .answer); table = c .table }
-
--- this is printed, and nothing changes
-abbrev pub says : List ℕ → List ℕ → Turn
-says text t = record { text = text; table = t }
-
--- a request is called
-unfoldable pub request-turn : List ℕ → Request → Turn
-request-turn t (Open N hidden) = told (opening N hidden t)
-request-turn t (Command number caller a b c set) = told (call list-room caller (command-of number a b c set) t)
-request-turn t Unfit = says bad-line t
 
 -- a line asks for what its bytes say; one without a newline is bad; a script that is too long only says so
 unfoldable pub line-turn : List ℕ → Line → Turn

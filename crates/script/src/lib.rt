@@ -6,9 +6,6 @@ ghost use lib.ListN.{length};
 ghost use Rattle.print.specs.Sheets.{sheet};
 ghost use Rattle.script.specs.Scripts.{script-limit, lines-from, size-of, stop, runs};
 ghost use Rattle.script.specs.Lines.{first-of, asks};
-
-mod calls;
-
 use line::Request;
 
 // The run for a list has so many words.
@@ -36,7 +33,7 @@ struct Head {
 fn first(s: &[u8]) -> Head
     ensures { λ h. ⌜ (h .size ≡ size-of (first-of (now (s .entry)))) × (h .request ≡ asks (first-of (now (s .entry)))) ⌝ }
 {
-    let e = line::find(s, b'\n');
+    let e = fields::find(s, b'\n');
     if e < s.len() {
         let request = line::request_of(&s[..e]);
         return Head {
@@ -86,7 +83,7 @@ pub fn run(script: &[u8], from: usize, table: &mut [u64], out: &mut [u8]) -> Ran
         let head = first(&script[at..]);
         let size = head.size;
         let request = head.request;
-        len = calls::request_turn(table, &mut words, out, len, request);
+        len = turns::request_turn(table, &mut words, out, len, request);
         at += size;
     }
     Ran { next: at, len: len }

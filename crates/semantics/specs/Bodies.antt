@@ -6,8 +6,8 @@ use native.Mathlib.Nat.{not-suc-le-zero, mul-suc, mul-comm, mul-le-mul-left}
 use native.Mathlib.Omega.{arith}
 use lib.ListN.{length, getD, length-append, List·getD-append}
 use lib.Seq.{getD-append-add}
-use Rattle.namespace.specs.Entries.{word-of, entry-of, words, entries}
-use Rattle.namespace.specs.Storage.{length-words}
+use Rattle.entries.specs.Entries.{word-of, entry-of, words, entries}
+use Rattle.entries.specs.Storage.{length-words}
 use Rattle.semantics.specs.Sizes.{group-limit, bodies-at}
 use Rattle.semantics.specs.State.{Group}
 use Rattle.semantics.specs.Table.{bodies}

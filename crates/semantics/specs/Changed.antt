@@ -9,8 +9,8 @@ use native.Mathlib.Omega.{arith}
 use lib.ListN.{length}
 use Rattle.nodes.specs.Sets.{node-limit, has, roster, union, diff}
 use Rattle.nodes.specs.Laws.{has-union, has-ext, union-lt, subset-union, subset-le}
-use Rattle.namespace.specs.Entries.{Entry}
-use Rattle.namespace.specs.Soundness as Namespace
+use Rattle.entries.specs.Entries.{Entry}
+use Rattle.entries.specs.Soundness as Namespace
 use Rattle.semantics.specs.Sizes.{group-limit, group-names}
 use Rattle.semantics.specs.State.{Group, State, with-groups, with-links, with-free, find, put, add-group, drop-group, all-members}
 use Rattle.semantics.specs.Steps.{hold, join, create, interconnect, leave-free, apply}

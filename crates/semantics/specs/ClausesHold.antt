@@ -9,7 +9,7 @@ use lib.ListN.{length, getD, List·getD-eq-default}
 use borrow.Author.Tests.{eq-eqb, ne-eqb}
 use Rattle.nodes.specs.Sets.{node-limit, has}
 use Rattle.nodes.specs.Laws.{has-none, has-below, has-ext}
-use Rattle.namespace.specs.Entries.{word-of}
+use Rattle.entries.specs.Entries.{word-of}
 use Rattle.semantics.specs.Sizes.{table-words}
 use Rattle.semantics.specs.State.{Group, State}
 use Rattle.semantics.specs.Table.{contents}

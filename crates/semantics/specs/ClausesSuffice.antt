@@ -11,7 +11,7 @@ use borrow.Author.Tests.{eq-eqb, ne-eqb}
 use Rattle.nodes.specs.Sets.{node-limit, has}
 use Rattle.nodes.specs.Bools.{by-lt, by-eq, by-test, test-ext}
 use Rattle.nodes.specs.Laws.{has-none, below-pow}
-use Rattle.namespace.specs.Entries.{word-of}
+use Rattle.entries.specs.Entries.{word-of}
 use Rattle.semantics.specs.Sizes.{group-limit}
 use Rattle.semantics.specs.State.{Group, State}
 use Rattle.semantics.specs.Table.{contents, state-of}

@@ -7,7 +7,7 @@ use Prim.Native.Nat.{ℕ, zero, suc, _+_, _-_}
 use lib.ListN.{length, replicate}
 use borrow.Author.Tests.{ne-eqb}
 use Rattle.nodes.specs.Sets.{node-limit}
-use Rattle.namespace.specs.Entries.{Entry}
+use Rattle.entries.specs.Entries.{Entry}
 use Rattle.semantics.specs.Sizes.{group-limit, names-per-group, group-names, table-words}
 use Rattle.semantics.specs.State.{Group}
 use Rattle.semantics.specs.Commands.{Command, register-name, re-register-name, whereis-name, registered-names, new-s-group, within, whereis-name-at, remove-nodes, delete-s-group, own-nodes, own-s-groups, answer-of}

@@ -2,7 +2,7 @@
 -- Assumes nothing.
 use Prim.Native.Nat.{ℕ, _^_, _<_}
 use Rattle.nodes.specs.Sets.{node-limit}
-use Rattle.namespace.specs.Entries.{half-word}
+use Rattle.entries.specs.Entries.{half-word}
 use Rattle.semantics.specs.Commands.{Command, register-name, re-register-name, unregister-name, whereis-name, registered-names, add-nodes, new-s-group, within, whereis-name-at, send-at, send, send-name, remove-nodes, delete-s-group, own-nodes, own-s-groups}
 
 -- a number of 32 digits

@@ -6,8 +6,8 @@ use Prim.Native.Nat.{ℕ, suc, _+_, _-_, _*_, _≤_, _<_}
 use native.Mathlib.Omega.{arith}
 use lib.ListN.{length, getD, take, drop, set, length-append}
 use lib.Seq.{sets, sets-eq, drop-drop, getD-set-same, getD-set-other, lt-length-sets}
-use Rattle.namespace.specs.Entries.{Entry, words}
-use Rattle.namespace.specs.Storage.{length-words}
+use Rattle.entries.specs.Entries.{Entry, words}
+use Rattle.entries.specs.Storage.{length-words}
 use Rattle.semantics.specs.Sizes.{group-limit, group-names, contents-at}
 use Rattle.semantics.specs.State.{Group, State, with-groups}
 use Rattle.semantics.specs.Table.{contents, layout}

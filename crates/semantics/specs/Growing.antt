@@ -11,7 +11,7 @@ use lib.ListN.{length, getD}
 use borrow.Author.Tests.{leb-false}
 use Rattle.nodes.specs.Sets.{node-limit, has, empty, single, union, inter, diff, beyond}
 use Rattle.nodes.specs.Bools.{by-test}
-use Rattle.namespace.specs.Entries.{Entry, host, lookup, holds-pid}
+use Rattle.entries.specs.Entries.{Entry, host, lookup, holds-pid}
 use Rattle.semantics.specs.Sizes.{group-limit, names-per-group, group-names, links-at}
 use Rattle.semantics.specs.State.{Group, State, with-groups, with-links, with-free, free-of, find, put, add-group, drop-group}
 use Rattle.semantics.specs.Commands.{GroupCommand, register-name, re-register-name, unregister-name, whereis-name, registered-names, add-nodes, new-s-group, Command, within, whereis-name-at, send-at, send, send-name, remove-nodes, delete-s-group, own-nodes, own-s-groups, held, bad-group}

@@ -10,9 +10,9 @@ use lib.ListN.{length}
 use borrow.Author.Tests.{eqb-false, leb-false, not-false}
 use Rattle.nodes.specs.Sets.{has, beyond}
 use Rattle.nodes.specs.Laws.{has-none}
-use Rattle.namespace.specs.Entries.{host, lookup, holds-pid}
-use Rattle.namespace.specs.Soundness as Namespace
-use Rattle.namespace.specs.Keeps.{sound-remove}
+use Rattle.entries.specs.Entries.{host, lookup, holds-pid}
+use Rattle.entries.specs.Soundness as Namespace
+use Rattle.entries.specs.Keeps.{sound-remove}
 use Rattle.semantics.specs.Sizes.{group-limit, names-per-group, group-names}
 use Rattle.semantics.specs.State.{Group, State, find}
 use Rattle.semantics.specs.Commands.{GroupCommand, register-name, re-register-name, unregister-name, whereis-name, registered-names, add-nodes, new-s-group, Command, within, whereis-name-at, send-at, send, send-name, remove-nodes, delete-s-group, own-nodes, own-s-groups, held, bad-group}

@@ -5,8 +5,8 @@ use Prim.Native.Nat.{ℕ, _-_}
 use lib.ListN.{length, replicate}
 use lib.Count.{ones, onesIn}
 use Rattle.nodes.specs.Sets.{node-limit, union, inter, diff, union-all}
-use Rattle.namespace.specs.Entries.{Entry, insert, remove, lookup, holds-pid, words, entries}
-use Rattle.namespace.specs.Soundness.{is-ascending, is-distinct, is-hosted, sound-entries}
+use Rattle.entries.specs.Entries.{Entry, insert, remove, lookup, holds-pid, words, entries}
+use Rattle.entries.specs.Soundness.{is-ascending, is-distinct, is-hosted, sound-entries}
 use Rattle.semantics.specs.Sizes.{names-per-group, table-words}
 use Rattle.semantics.specs.State.{Group, find, put, add-group, drop-group}
 use Rattle.semantics.specs.Commands.{Command, within, new-s-group, register-name, re-register-name, unregister-name, whereis-name, whereis-name-at, delete-s-group, answer-of}

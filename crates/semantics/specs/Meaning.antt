@@ -7,8 +7,8 @@ use Prim.Native.Nat.{ℕ, _/_, _%_, _≤_, _<_}
 use native.Mathlib.Omega.{arith}
 use lib.ListN.{length, getD, List·getD-eq-default}
 use Rattle.nodes.specs.Sets.{node-limit, has}
-use Rattle.namespace.specs.Entries.{Entry, half-word, word-of}
-use Rattle.namespace.specs.Storage.{entry-of-word}
+use Rattle.entries.specs.Entries.{Entry, half-word, word-of}
+use Rattle.entries.specs.Storage.{entry-of-word}
 use Rattle.semantics.specs.Sizes.{group-limit, group-names}
 use Rattle.semantics.specs.State.{State}
 use Rattle.semantics.specs.Soundness.{size-of, hidden-of, count-of, name-of, names-of, members-of, links-of, free-of, entry-of, process-of, pid-of, Free-normal}

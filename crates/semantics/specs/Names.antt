@@ -10,10 +10,10 @@ use lib.Dec.{eqb, leb}
 use lib.ListN.{length}
 use borrow.Author.Tests.{leb-false}
 use Rattle.nodes.specs.Bools.{by-test}
-use Rattle.namespace.specs.Entries.{Entry, half-word, host, insert, remove, lookup, holds-pid}
-use Rattle.namespace.specs.Soundness.{Hosted, Sound}
-use Rattle.namespace.specs.Laws.{length-remove, lookup-remove-same}
-use Rattle.namespace.specs.Keeps.{length-remove-le, sound-insert, sound-remove}
+use Rattle.entries.specs.Entries.{Entry, half-word, host, insert, remove, lookup, holds-pid}
+use Rattle.entries.specs.Soundness.{Hosted, Sound}
+use Rattle.entries.specs.Laws.{length-remove, lookup-remove-same}
+use Rattle.entries.specs.Keeps.{length-remove-le, sound-insert, sound-remove}
 use Rattle.semantics.specs.Commands.{held}
 use Rattle.semantics.specs.Truth.{neither}
 

@@ -10,7 +10,7 @@ use lib.Dec.{eqb, leb}
 use lib.ListN.{length, getD, length-append}
 use Rattle.nodes.specs.Sets.{has}
 use Rattle.nodes.specs.Bools.{by-eq}
-use Rattle.namespace.specs.Entries.{Entry, lookup, holds-pid, host}
+use Rattle.entries.specs.Entries.{Entry, lookup, holds-pid, host}
 use Rattle.semantics.specs.Sizes.{group-names, names-per-group, contents-at, table-words}
 use Rattle.semantics.specs.State.{Group, State, find, with-groups}
 use Rattle.semantics.specs.Commands.{GroupCommand, register-name, re-register-name, unregister-name, whereis-name, registered-names, add-nodes, new-s-group, held, bad-group, Command, within}

@@ -7,8 +7,8 @@ use native.Mathlib.Omega.{arith}
 use lib.Dec.{lit<}
 use lib.ListN.{length, getD, take, drop, set, replicate, length-append, length-map}
 use lib.Seq.{set-at}
-use Rattle.namespace.specs.Entries.{Entry, words}
-use Rattle.namespace.specs.Storage.{length-words}
+use Rattle.entries.specs.Entries.{Entry, words}
+use Rattle.entries.specs.Storage.{length-words}
 use Rattle.semantics.specs.Sizes.{group-limit, group-names, contents-at, members-at}
 use Rattle.semantics.specs.State.{Group, State, with-groups}
 use Rattle.semantics.specs.Table.{pad, contents, bodies, sections}

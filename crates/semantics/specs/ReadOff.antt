@@ -7,9 +7,9 @@ use native.Mathlib.Omega.{arith}
 use lib.ListN.{length, getD, take, drop, length-drop}
 use lib.Seq.{drop-drop, getD-drop, getD-take, length-take-le}
 use Rattle.nodes.specs.Sets.{node-limit}
-use Rattle.namespace.specs.Entries.{Entry, entries}
-use Rattle.namespace.specs.Entries as Namespace
-use Rattle.namespace.specs.Storage.{length-entries}
+use Rattle.entries.specs.Entries.{Entry, entries}
+use Rattle.entries.specs.Entries as Namespace
+use Rattle.entries.specs.Storage.{length-entries}
 use Rattle.semantics.specs.Sizes.{group-limit, group-names, contents-at, members-at, links-at, free-at, bodies-at}
 use Rattle.semantics.specs.State.{Group}
 use Rattle.semantics.specs.Table.{groups-of, state-of}

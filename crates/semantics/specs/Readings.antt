@@ -11,7 +11,7 @@ use lib.Dec.{eqb}
 use lib.Count.{trailingZeros}
 use lib.ListN.{getD}
 use Rattle.nodes.specs.Sets.{has, empty, single, union, inter, diff, lowest, upto, walk}
-use Rattle.namespace.specs.Entries.{lookup}
+use Rattle.entries.specs.Entries.{lookup}
 use Rattle.semantics.specs.Answers.{number}
 use Rattle.semantics.specs.Sizes.{names-per-group, links-at, free-at}
 use Rattle.semantics.specs.State.{Group, State, with-groups, free-of, find}

@@ -10,7 +10,7 @@ use lib.Dec.{eqb, leb, ltb}
 use lib.ListN.{length}
 use Rattle.nodes.specs.Sets.{has, beyond}
 use Rattle.nodes.specs.Bools.{by-test}
-use Rattle.namespace.specs.Entries.{lookup, holds-pid, host}
+use Rattle.entries.specs.Entries.{lookup, holds-pid, host}
 use Rattle.semantics.specs.Answers.{number}
 use Rattle.semantics.specs.Sizes.{group-limit, group-names, names-per-group, table-words}
 use Rattle.semantics.specs.State.{Group, State, find}

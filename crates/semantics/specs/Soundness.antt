@@ -7,7 +7,7 @@ use mathlib.Core.List.{List}
 use Prim.Native.Nat.{ℕ, _+_, _*_, _/_, _%_, _≤_, _<_}
 use lib.ListN.{length, getD}
 use Rattle.nodes.specs.Sets.{node-limit, has}
-use Rattle.namespace.specs.Entries.{half-word, host}
+use Rattle.entries.specs.Entries.{half-word, host}
 use Rattle.semantics.specs.Sizes.{group-limit, group-names, contents-at, members-at, links-at, free-at, bodies-at, table-words}
 
 -- ---- the words by their meaning

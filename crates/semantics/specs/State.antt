@@ -6,7 +6,7 @@ use Prim.Native.Nat.{ℕ}
 use lib.Dec.{eqb, ltb}
 use lib.ListN.{getD}
 use Rattle.nodes.specs.Sets.{roster, diff, union-all}
-use Rattle.namespace.specs.Entries.{Entry}
+use Rattle.entries.specs.Entries.{Entry}
 
 -- an s_group: its name, the set of its members, its namespace
 pub record Group : Type 0 where

@@ -7,7 +7,7 @@ use Prim.Native.Nat.{ℕ, suc, _*_, _+_}
 use lib.Dec.{eqb, leb, ltb}
 use lib.ListN.{length, replicate}
 use Rattle.nodes.specs.Sets.{node-limit, has, empty, single, union, inter, diff, beyond, count, union-all}
-use Rattle.namespace.specs.Entries.{Entry, half-word, host, insert, remove, lookup, holds-pid}
+use Rattle.entries.specs.Entries.{Entry, half-word, host, insert, remove, lookup, holds-pid}
 use Rattle.semantics.specs.Commands.{Command, GroupCommand, within, register-name, re-register-name, unregister-name, whereis-name, registered-names, add-nodes, new-s-group, whereis-name-at, send-at, send, send-name, remove-nodes, delete-s-group, own-nodes, own-s-groups, bad-group, held, answer-of}
 use Rattle.semantics.specs.Sizes.{group-limit, names-per-group, group-names}
 use Rattle.semantics.specs.State.{Group, State, with-groups, with-links, with-free, free-of, find, put, add-group, drop-group, all-members}

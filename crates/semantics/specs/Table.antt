@@ -3,7 +3,7 @@ use mathlib.Core.List.{List, [], _∷_, _++_, map}
 use Prim.Native.Nat.{ℕ, _+_, _-_, _*_, _/_, _%_}
 use lib.ListN.{length, getD, take, drop, replicate}
 use Rattle.nodes.specs.Sets.{node-limit}
-use Rattle.namespace.specs.Entries.{words, entries}
+use Rattle.entries.specs.Entries.{words, entries}
 use Rattle.semantics.specs.Sizes.{group-limit, group-names, contents-at, members-at, links-at, free-at, bodies-at}
 use Rattle.semantics.specs.State.{Group, State}
 

@@ -6,8 +6,8 @@ use native.Mathlib.Omega.{arith}
 use lib.Dec.{lit<}
 use lib.ListN.{length, getD, take, drop, length-map, replicate}
 use lib.Seq.{drop-at}
-use Rattle.namespace.specs.Entries.{words, entries}
-use Rattle.namespace.specs.Storage.{length-words, entries-words}
+use Rattle.entries.specs.Entries.{words, entries}
+use Rattle.entries.specs.Storage.{length-words, entries-words}
 use Rattle.semantics.specs.Sizes.{group-limit, group-names, contents-at, members-at, bodies-at, table-words}
 use Rattle.semantics.specs.State.{Group, State}
 use Rattle.semantics.specs.Table.{contents, bodies, cat, sections, layout, groups-of, state-of}

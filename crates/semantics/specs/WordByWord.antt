@@ -8,7 +8,7 @@ use native.Mathlib.Omega.{arith}
 use lib.ListN.{length, getD}
 use Rattle.nodes.specs.Sets.{node-limit}
 use Rattle.nodes.specs.Bools.{by-lt}
-use Rattle.namespace.specs.Entries.{word-of}
+use Rattle.entries.specs.Entries.{word-of}
 use Rattle.semantics.specs.Sizes.{group-limit, head-words, bodies-at, table-words}
 use Rattle.semantics.specs.State.{State}
 use Rattle.semantics.specs.Table.{contents, bodies, sections}

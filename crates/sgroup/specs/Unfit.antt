@@ -11,7 +11,7 @@ use Rattle.semantics.specs.Calls.{why}
 use Rattle.semantics.specs.Agree.{test-regular}
 use Rattle.semantics.specs.declared.Answer.{Answer}
 use Rattle.semantics.specs.declared.Value.the-variants.{Error}
-use Rattle.sgroup.specs.Calls.{Says, Lists, says-unsound, lists-unsound}
+use Rattle.steps.specs.Calls.{Says, Lists, says-unsound, lists-unsound}
 
 -- what a step asks for
 pub sound-run : (t : List ℕ) → sound names-per-group t ≡ true → (length t ≡ table-words names-per-group) × (sound names-per-group t ≡ true)

@@ -1,25 +1,14 @@
 // The fifteen commands over a lent table.
+use layout::TABLE_WORDS;
 use semantics::Answer;
 use semantics::Reason;
 use semantics::Value;
-use table::TABLE_WORDS;
 ghost use mathlib.Core.Path.{_≡_};
 ghost use lib.ListN.{length};
 ghost use Rattle.semantics.specs.Commands.{answer-of, within, register-name, re-register-name, unregister-name, registered-names, whereis-name, new-s-group, add-nodes, whereis-name-at, send, send-name, send-at, remove-nodes, delete-s-group, own-nodes, own-s-groups};
 ghost use Rattle.semantics.specs.Call.{call, listed-over};
 ghost use Rattle.semantics.specs.Calls.{why};
 ghost use Rattle.semantics.specs.declared.Value.the-variants.{Error};
-
-mod bodies;
-mod grouping;
-mod groups;
-mod judge;
-mod names;
-mod naming;
-mod place;
-mod reaching;
-mod reading;
-mod wires;
 
 // The answer where the run is no sound table: its length is wrong, or it is unsound.
 fn unfit(table: &[u64]) -> Answer
@@ -184,7 +173,7 @@ pub fn own_nodes(table: &[u64], caller: u32) -> Answer
     ensures { λ r. ⌜ r ≡ call 0 caller own-nodes (now (table .entry)) .answer ⌝ }
 {
     if table::is_sound(table) {
-        return reading::own_nodes(table, caller);
+        return own::own_nodes(table, caller);
     }
     unfit(table)
 }
@@ -195,7 +184,7 @@ pub fn own_s_groups(table: &[u64], caller: u32, out: &mut [u64]) -> Answer
     ensures { λ _. ⌜ now (out .exit) ≡ listed-over (call (length (now (out .entry))) caller own-s-groups (now (table .entry)) .list) (now (out .entry)) ⌝ }
 {
     if table::is_sound(table) {
-        return reading::own_s_groups(table, caller, out);
+        return own::own_s_groups(table, caller, out);
     }
     unfit(table)
 }

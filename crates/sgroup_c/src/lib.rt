@@ -1,75 +1,19 @@
 // The library for C and Rust: opening, the test and the commands, with numbers for their answers. A run is passed as a pointer and a length.
-use semantics::Answer;
-use semantics::Value;
 ghost use mathlib.Core.Path.{_≡_};
-ghost use mathlib.Core.List.{[], _++_};
-ghost use Prim.Native.Nat.{_≤_};
-ghost use lib.ListN.{length, drop};
+ghost use mathlib.Core.List.{[]};
 ghost use Rattle.semantics.specs.Answers.{number};
 ghost use Rattle.semantics.specs.Sizes.{names-per-group};
 ghost use Rattle.semantics.specs.Commands.{within, register-name, re-register-name, unregister-name, registered-names, whereis-name, whereis-name-at, send, send-name, send-at, new-s-group, add-nodes, remove-nodes, delete-s-group, own-nodes, own-s-groups};
 ghost use Rattle.semantics.specs.Call.{opening};
 ghost use Rattle.semantics.specs.Test.{sound};
-ghost use Rattle.sgroup_c.specs.Numbers.{answer-words, first, second, answer-in, told, commanded};
+ghost use Rattle.told.specs.Numbers.{told, commanded};
+use told::put;
 
 // How many words an answer takes: its kind, two numbers, the number of its reason.
 const ANSWER_WORDS: usize = 4;
 
 // What is returned where the run for the answer is shorter; nothing is called then.
 const NO_ROOM: u32 = 4294967295;
-
-// The first number of a value.
-fn first(value: Value) -> u64
-    ensures { λ r. ⌜ r ≡ first value ⌝ }
-{
-    match value {
-        Value::Ok => 0,
-        Value::True => 0,
-        Value::False => 0,
-        Value::Error => 0,
-        Value::Undefined => 0,
-        Value::Pid(pid) => pid as u64,
-        Value::Grouped(name, _) => name as u64,
-        Value::Nodes(set, _) => set,
-        Value::Listed(count) => count as u64,
-    }
-}
-
-// The second number of a value.
-fn second(value: Value) -> u64
-    ensures { λ r. ⌜ r ≡ second value ⌝ }
-{
-    match value {
-        Value::Ok => 0,
-        Value::True => 0,
-        Value::False => 0,
-        Value::Error => 0,
-        Value::Undefined => 0,
-        Value::Pid(_) => 0,
-        Value::Grouped(_, set) => set,
-        Value::Nodes(_, count) => count as u64,
-        Value::Listed(_) => 0,
-    }
-}
-
-// Writes an answer into the first words of a run; the number of its reason.
-fn put(run: &mut [u64], given: Answer) -> u32
-    requires { ⌜ answer-words ≤ length (now run) ⌝ }
-    ensures { λ r. ⌜ r ≡ number (given .reason) ⌝ }
-    ensures { λ _. ⌜ now (run .exit) ≡ answer-in given ++ drop answer-words (now (run .entry)) ⌝ }
-{
-    let value = given.value;
-    let reason = given.reason;
-    let kind = semantics::kind(value);
-    let one = first(value);
-    let two = second(value);
-    let why = semantics::number(reason);
-    run[0] = kind as u64;
-    run[1] = one;
-    run[2] = two;
-    run[3] = why as u64;
-    why
-}
 
 // Whether the run is a sound table.
 #[no_mangle]
@@ -89,7 +33,7 @@ pub extern "C" fn sgroup_open(table: &mut [u64], n: u32, hidden: u64, answer: &m
     if answer.len() < ANSWER_WORDS {
         return NO_ROOM;
     }
-    put(answer, table::open(table, n, hidden))
+    put(answer, fresh::open(table, n, hidden))
 }
 
 // Registers the pid under the name in the s_group.

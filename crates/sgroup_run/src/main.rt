@@ -50,7 +50,7 @@ fn main() {
         os::fail(b"sgroup_run: the script cannot be read");
         return;
     }
-    let mut table = [0u64; table::TABLE_WORDS];
+    let mut table = [0u64; layout::TABLE_WORDS];
     let mut out = [0u8; OUTPUT_ROOM];
     let mut at = 0;
     while at < n {

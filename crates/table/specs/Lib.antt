@@ -1,6 +1,3 @@
-pub mod Tests
-pub mod Below
 pub mod NamesReading
 pub mod Reading
 pub mod Verdict
-pub mod Opening

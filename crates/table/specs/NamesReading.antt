@@ -8,15 +8,15 @@ use native.Mathlib.Nat.{add-assoc}
 use native.Mathlib.Omega.{arith}
 use lib.ListN.{length, getD, drop, length-drop, List·getD-eq-default}
 use lib.Seq.{getD-take, getD-drop, length-take-le, ext-getD}
-use Rattle.namespace.specs.Entries.{Entry, half-word, host, word-of, words, entries}
-use Rattle.namespace.specs.Soundness.{Stored}
-use Rattle.namespace.specs.Storage.{length-words, length-entries, word-of-entry, sound-words-iff}
+use Rattle.entries.specs.Entries.{Entry, half-word, host, word-of, words, entries}
+use Rattle.entries.specs.Soundness.{Stored}
+use Rattle.entries.specs.Storage.{length-words, length-entries, word-of-entry, sound-words-iff}
 use Rattle.nodes.specs.Bools.{by-lt}
 use mathlib.Core.Logic.{⊎-elim}
 use Rattle.semantics.specs.Sizes.{bodies-at}
 use Rattle.semantics.specs.Soundness.{word, names-of, entry-of, process-of, pid-of}
 use Rattle.semantics.specs.EntryPlaces.{Climbing, no-entry, entry-at, words-at, entries-at, climbing-iff, distinct-iff, hosted-iff}
-use Rattle.table.specs.Tests.{body, names-right}
+use Rattle.parts.specs.Tests.{body, names-right}
 
 -- group g holds a sound namespace with hosts among the first n nodes
 pub record Names-sound (cap : ℕ) (t : List ℕ) (n g : ℕ) : Type 0 where

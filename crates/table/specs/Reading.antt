@@ -17,7 +17,7 @@ use Rattle.semantics.specs.Truth.{unless}
 use Rattle.wiring.specs.Tests.{all-below, all-zero, links-sound, free-sound}
 use Rattle.wiring.specs.Below.{tests, below-iff, within-iff}
 use Rattle.wiring.specs.Reading.{Sound-links, Sound-free, links-sound-iff, members-met-iff, free-sound-iff}
-use Rattle.table.specs.Tests.{name-before, contents-right, members-right, part, members-part, links-part, free-part, met-right, names-right, head-right, unused-zero}
+use Rattle.parts.specs.Tests.{name-before, contents-right, members-right, part, members-part, links-part, free-part, met-right, names-right, head-right, unused-zero}
 use Rattle.table.specs.NamesReading.{Names-sound, names-iff}
 
 -- ---- what is tested

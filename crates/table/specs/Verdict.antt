@@ -15,7 +15,7 @@ use Rattle.semantics.specs.Agree.{sound-iff}
 use Rattle.semantics.specs.Truth.{unless}
 use Rattle.wiring.specs.Tests.{free-sound}
 use Rattle.wiring.specs.Below.{tests}
-use Rattle.table.specs.Tests.{members-part, links-part, free-part, head-right, loose-in, parts-right}
+use Rattle.parts.specs.Tests.{members-part, links-part, free-part, head-right, loose-in, parts-right}
 use Rattle.table.specs.Reading.{loose-of, Right, right-sound, sound-right}
 
 -- what a right head says of the sizes

@@ -4,7 +4,7 @@ use borrow.Author.Needs.{needs}
 use mathlib.Core.Path.{_≡_, ap, _∙_}
 use mathlib.Core.List.{[], _∷_, append-nil}
 use Prim.Native.Nat.{ℕ}
-use Rattle.line.specs.Text.{space}
+use Rattle.fields.specs.Text.{space}
 use Rattle.print.specs.Sheets.{put}
 use Rattle.print.specs.Lines.{decimal, spaced}
 use Rattle.print.specs.Putting.{put-next}

@@ -8,7 +8,8 @@ use Prim.Native.Nat.{_≤_, _-_}
 use native.Mathlib.Omega.{arith}
 use lib.ListN.{length}
 use Rattle.print.specs.Sheets.{sheet}
-use Rattle.script.specs.Scripts.{list-room, lines-from, runs}
+use Rattle.turns.specs.Turns.{list-room}
+use Rattle.script.specs.Scripts.{lines-from, runs}
 use Rattle.script.proofs.run.Statement.{statement}
 use Rattle.script.proofs.run.Tie as tie
 

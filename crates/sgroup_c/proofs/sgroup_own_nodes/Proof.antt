@@ -4,7 +4,7 @@ use borrow.Author.Needs.{needs}
 use mathlib.Core.List.{[]}
 use Rattle.semantics.specs.Commands.{own-nodes}
 use Rattle.semantics.specs.Call.{call}
-use Rattle.sgroup_c.specs.Told.{silent, tells}
+use Rattle.told.specs.Told.{silent, tells}
 use Rattle.sgroup_c.proofs.sgroup_own_nodes.Statement.{statement}
 use Rattle.sgroup_c.proofs.sgroup_own_nodes.Tie as tie
 

@@ -4,7 +4,7 @@ use borrow.Author.Needs.{needs}
 use lib.ListN.{length}
 use Rattle.semantics.specs.Commands.{own-s-groups}
 use Rattle.semantics.specs.Call.{call}
-use Rattle.sgroup_c.specs.Told.{silent-list, tells-list}
+use Rattle.told.specs.Told.{silent-list, tells-list}
 use Rattle.sgroup_c.proofs.sgroup_own_s_groups.Statement.{statement}
 use Rattle.sgroup_c.proofs.sgroup_own_s_groups.Tie as tie
 

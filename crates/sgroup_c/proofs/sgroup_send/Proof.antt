@@ -4,7 +4,7 @@ use borrow.Author.Needs.{needs}
 use mathlib.Core.List.{[]}
 use Rattle.semantics.specs.Commands.{send}
 use Rattle.semantics.specs.Call.{call}
-use Rattle.sgroup_c.specs.Told.{silent-table, tells-table}
+use Rattle.told.specs.Told.{silent-table, tells-table}
 use Rattle.sgroup_c.proofs.sgroup_send.Statement.{statement}
 use Rattle.sgroup_c.proofs.sgroup_send.Tie as tie
 

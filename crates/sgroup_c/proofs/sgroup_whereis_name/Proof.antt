@@ -4,7 +4,7 @@ use borrow.Author.Needs.{needs}
 use mathlib.Core.List.{[]}
 use Rattle.semantics.specs.Commands.{within, whereis-name}
 use Rattle.semantics.specs.Call.{call}
-use Rattle.sgroup_c.specs.Told.{silent, tells}
+use Rattle.told.specs.Told.{silent, tells}
 use Rattle.sgroup_c.proofs.sgroup_whereis_name.Statement.{statement}
 use Rattle.sgroup_c.proofs.sgroup_whereis_name.Tie as tie
 

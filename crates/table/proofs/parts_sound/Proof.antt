@@ -5,7 +5,7 @@ use mathlib.Core.Path.{ap, ap₂, _∙_}
 use mathlib.Core.Bool.{_&&_}
 use Prim.Native.Nat.{ℕ}
 use Rattle.wiring.specs.Tests.{free-sound}
-use Rattle.table.specs.Tests.{links-part, free-part}
+use Rattle.parts.specs.Tests.{links-part, free-part}
 use Rattle.table.proofs.parts_sound.Statement.{statement}
 use Rattle.table.proofs.parts_sound.Tie as tie
 

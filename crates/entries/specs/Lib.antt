@@ -1,0 +1,10 @@
+pub mod Pass
+pub mod Entries
+pub mod Soundness
+pub mod Raw
+pub mod Laws
+pub mod Keeps
+pub mod Storage
+pub mod Search
+pub mod Meaning
+pub mod Examples

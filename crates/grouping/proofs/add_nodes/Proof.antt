@@ -1,0 +1,131 @@
+-- `grouping::add_nodes` meets its contract: each return is one case of the rule.
+-- Assumes nothing.
+use borrow.Author.Needs.{needs}
+use Prim.Native.Nat.{_<_}
+use native.Mathlib.Omega.{arith}
+use Rattle.semantics.specs.Sizes.{group-limit}
+use Rattle.semantics.specs.Table.{state-of}
+use Rattle.place.specs.declared.Access.the-variants.{Member, Denied}
+use Rattle.place.specs.Seats.{Open}
+use Rattle.place.specs.Sound.{here, regular, base, nodes-few, granted-here}
+use Rattle.steps.specs.Judged.{refused, denied, step-add}
+use Rattle.steps.specs.Calls.{says-kept}
+use Rattle.wires.specs.Loosed.{regular-rostered}
+use Rattle.grouping.specs.Grouping.{seat-few, add-joined}
+use Rattle.judge.proofs.Reasons.{not-done}
+use Rattle.grouping.proofs.add_nodes.Statement.{statement}
+use Rattle.grouping.proofs.add_nodes.Tie as tie
+
+-- the caller is a member of the s_group that is found
+found : (c : tie.After-known-told2) → let a = c .before .before .before .before .before .before .before .before .before .before .args in Open (a .caller) (a .s) (c .before .at .given .0 .0) (here (a .t .now) .groups)
+found c =
+    let p = c .before .before .before .before .before .before .before .before .before .before in
+    let f = c .before .before .before .place-for in
+    granted-here (p .args .t .now) (p .pre .1) (p .args .caller) (p .args .s) (f .result) (Member (c .before .at .given .0 .0)) (f .ensures) (c .before .at .given .1)
+
+few : (c : tie.After-known-told2) → c .before .at .given .0 .0 < group-limit
+few c = let p = c .before .before .before .before .before .before .before .before .before .before in seat-few (p .args .t .now) (p .pre .1) (found c .seat)
+
+slice-read-set-reason : tie.Need-slice-read-set-reason
+slice-read-set-reason c = search needs
+
+cast-set-reason : tie.Need-cast-set-reason
+cast-set-reason c = let p = c .before .before in omega (arith, nodes-few (p .args .t .now) (p .pre .1))
+
+set-reason-requires : tie.Need-set-reason-requires
+set-reason-requires c κs = search needs
+
+enum-told : tie.Need-enum-told
+enum-told c = search needs
+
+returns : tie.Need-returns
+unfolding state-of
+returns c =
+    let p = c .before .before .before .before in
+    says-kept (p .args .t .now) (p .pre .1)
+    (refused (step-add 0 (p .args .caller) (here (p .args .t .now)) (p .args .s) (p .args .set) .judging) (c .before .set-reason .ensures) (not-done (c .before .set-reason .result) (c .match .keys2)))
+
+place-for-requires : tie.Need-place-for-requires
+place-for-requires c κs = search needs
+
+enum-known-denial : tie.Need-enum-known-denial
+enum-known-denial c = search needs
+
+enum-known-at : tie.Need-enum-known-at
+enum-known-at c = search needs
+
+add-union : tie.Need-add-union
+add-union c = omega (arith, few c)
+
+mul-union : tie.Need-mul-union
+mul-union c = omega (arith, few c)
+
+slice-read-union : tie.Need-slice-read-union
+slice-read-union c = omega (arith, few (c .before), c .before .before .before .before .before .before .before .before .before .before .before .pre .0)
+
+union-requires : tie.Need-union-requires
+union-requires c κs = search needs
+
+leave-free-requires : tie.Need-leave-free-requires
+leave-free-requires c κs = let p = c .before .before .before .before .before .before .before .before .before .before .before .before .before in (p .pre .0, nodes-few (p .args .t .now) (p .pre .1))
+
+interconnect-requires : tie.Need-interconnect-requires
+interconnect-requires c κs = search needs
+
+set-members-requires : tie.Need-set-members-requires
+set-members-requires c κs = (search needs, few (c .before .before .before .before .before .before .before .before .before .before .before))
+
+same-length : tie.Need-same-length
+same-length c = search needs
+
+returns-2 : tie.Need-returns-2
+unfolding state-of
+returns-2 c =
+    let p = c .before .before .before .before .before .before .before .before .before .before in
+    let t = p .args .t .now in
+    let f = c .before .before .before .place-for in
+    says-kept t (p .pre .1)
+    (denied (step-add 0 (p .args .caller) (here t) (p .args .s) (p .args .set)) (c .before .before .before .before .before .before .before .set-reason .ensures) (c .before .before .before .before .before .enum-told .given .1)
+    (granted-here t (p .pre .1) (p .args .caller) (p .args .s) (f .result) (Denied (c .before .denial .given .0 .0)) (f .ensures) (c .before .denial .given .1)))
+
+same-length-2 : tie.Need-same-length-2
+same-length-2 c = search needs
+
+returns-3 : tie.Need-returns-3
+unfolding state-of
+returns-3 c =
+    let m = c .before .before .set-members in
+    let i = c .before .before .before .before .before .before .interconnect in
+    let l = c .before .before .before .before .before .before .before .before .before .before .leave-free in
+    let u = c .before .before .before .before .before .before .before .before .before .before .before .before .union in
+    let k = c .before .before .before .before .before .before .before .before .before .before .before .before .before .before in
+    let p = k .before .before .before .before .before .before .before .before .before .before in
+    let t = p .args .t .now in
+    let r = found k .seat in
+    add-joined t (p .pre .1) (p .args .caller) (p .args .s) (p .args .set) (k .before .before .before .before .before .before .before .set-reason .ensures) (k .before .before .before .before .before .enum-told .given .1) (found k)
+    (u .result) (u .ensures) (m .last .0)
+    (m .ensures _ (i .ensures _ (l .ensures (here t) (base t (p .pre .1)) (regular-rostered (regular t (p .pre .1))))) (r .before) (r .after) (r .group) (r .is) (r .stands))
+
+pub add-nodes-spec : {M : Type 1} → statement M
+add-nodes-spec =
+    tie.close
+    (tie.spec
+    slice-read-set-reason
+    cast-set-reason
+    set-reason-requires
+    enum-told
+    returns
+    place-for-requires
+    enum-known-denial
+    enum-known-at
+    add-union
+    mul-union
+    slice-read-union
+    union-requires
+    leave-free-requires
+    interconnect-requires
+    set-members-requires
+    same-length
+    returns-2
+    same-length-2
+    returns-3)

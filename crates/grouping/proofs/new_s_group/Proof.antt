@@ -1,0 +1,131 @@
+-- `grouping::new_s_group` meets its contract: each return is one case of the rule.
+-- Assumes nothing.
+use borrow.Author.Needs.{needs}
+use mathlib.Core.Path.{sym, ap, _∙_}
+use mathlib.Core.Bool.{false}
+use native.Mathlib.Omega.{arith}
+use lib.ListN.{length, getD, length-append}
+use Rattle.semantics.specs.Commands.{held}
+use Rattle.semantics.specs.Laid.{Laid, count-is}
+use Rattle.semantics.specs.Sizes.{names-per-group}
+use Rattle.place.specs.declared.Place.the-variants.{At, Gap}
+use Rattle.place.specs.Seats.{Room}
+use Rattle.judge.specs.Passed.{creation-done}
+use Rattle.place.specs.Sound.{here, regular, base, nodes-few, sought-here}
+use Rattle.wires.specs.Loosed.{regular-rostered}
+use Rattle.grouping.specs.Grouping.{joined, new-refused, new-made, new-taken}
+use Rattle.judge.proofs.Reasons.{not-done}
+use Rattle.grouping.proofs.new_s_group.Statement.{statement}
+use Rattle.grouping.proofs.new_s_group.Tie as tie
+
+-- there is no s_group of the name, and room for one
+room : (c : tie.After-known-told) → let a = c .before .before .before .before .before .before .before .before .args in Room (a .s) (c .before .at .given .0 .0) (here (a .t .now) .groups)
+room c =
+    let p = c .before .before .before .before .before .before .before .before in
+    let f = c .before .before .before .place-of in
+    sought-here (p .args .t .now) (p .pre .1) (p .args .s) (f .result) (Gap (c .before .at .given .0 .0)) (f .ensures) (c .before .at .given .1)
+
+-- the table before the s_group goes in
+wired : (c : tie.After-interconnect) → let a = c .before .before .before .before .before .before .before .before .before .before .before .before .before .before .before .before .before .args in
+    Laid names-per-group (joined (a .set) (a .set) (here (a .t .now) .groups) (here (a .t .now))) (c .interconnect .last .0)
+wired c =
+    let p = c .before .before .before .before .before .before .before .before .before .before .before .before .before .before .before .before .before in
+    let t = p .args .t .now in
+    c .interconnect .ensures _ (c .before .before .before .before .leave-free .ensures (here t) (base t (p .pre .1)) (regular-rostered (regular t (p .pre .1))))
+
+slice-read-size : tie.Need-slice-read-size
+slice-read-size c = search needs
+
+cast-size : tie.Need-cast-size
+cast-size c = let p = c .before .before in omega (arith, nodes-few (p .args .t .now) (p .pre .1))
+
+slice-read-count : tie.Need-slice-read-count
+slice-read-count c = search needs
+
+place-of-requires : tie.Need-place-of-requires
+place-of-requires c κs = search needs
+
+enum-told : tie.Need-enum-told
+enum-told c = search needs
+
+creation-reason-requires : tie.Need-creation-reason-requires
+creation-reason-requires c κs = search needs
+
+enum-known-at : tie.Need-enum-known-at
+enum-known-at c = search needs
+
+creation-reason-requires-2 : tie.Need-creation-reason-requires-2
+creation-reason-requires-2 c κs = search needs
+
+enum-told-2 : tie.Need-enum-told-2
+enum-told-2 c = search needs
+
+same-length : tie.Need-same-length
+same-length c = search needs
+
+returns : tie.Need-returns
+returns c =
+    let p = c .before .before .before .before .before .before .before .before .before .before in
+    new-refused (p .args .t .now) (p .pre .1) (p .args .caller) (p .args .s) (p .args .set) false (c .before .creation-reason2 .ensures)
+    (ap held (room (c .before .before) .finds)) (not-done (c .before .creation-reason2 .result) (c .match2 .keys2))
+
+leave-free-requires : tie.Need-leave-free-requires
+leave-free-requires c κs = let p = c .before .before .before .before .before .before .before .before .before .before .before .before in (p .pre .0, nodes-few (p .args .t .now) (p .pre .1))
+
+interconnect-requires : tie.Need-interconnect-requires
+interconnect-requires c κs = search needs
+
+insert-group-requires : tie.Need-insert-group-requires
+insert-group-requires c κs =
+    let k = c .before .before .before .before .before .before .before .before .before .before .before .before in
+    let p = k .before .before .before .before .before .before .before .before in
+    let r = room k in
+    let n = count-is (wired (c .before .before .before)) in
+    let m = count-is (base (p .args .t .now) (p .pre .1)) in
+    let d = creation-done (getD (p .args .t .now) 0 0) (getD (p .args .t .now) 2 0) (p .args .caller) (p .args .s) (p .args .set) false (sym (c .before .before .before .before .before .before .before .before .before .before .before .creation-reason2 .ensures) ∙ c .before .before .before .before .before .before .before .before .before .enum-told2 .given .1) in
+    (search needs, (omega (arith, d .3), omega (arith, r .stands, ap length (r .is), length-append (r .before) (r .after))))
+
+same-length-2 : tie.Need-same-length-2
+same-length-2 c = search needs
+
+returns-2 : tie.Need-returns-2
+returns-2 c =
+    let p = c .before .before .before .before .before .before .before .before in
+    let f = c .before .before .before .place-of in
+    new-taken (p .args .t .now) (p .pre .1) (p .args .caller) (p .args .s) (p .args .set) (c .creation-reason .ensures)
+    (sought-here (p .args .t .now) (p .pre .1) (p .args .s) (f .result) (At (c .before .enum-told .given .0 .0)) (f .ensures) (c .before .enum-told .given .1))
+
+same-length-3 : tie.Need-same-length-3
+same-length-3 c = search needs
+
+returns-3 : tie.Need-returns-3
+returns-3 c =
+    let g = c .before .before .insert-group in
+    let k = c .before .before .before .before .before .before .before .before .before .before .before .before .before .before .before in
+    let p = k .before .before .before .before .before .before .before .before in
+    let r = room k in
+    new-made (p .args .t .now) (p .pre .1) (p .args .caller) (p .args .s) (p .args .set) false (c .before .before .before .before .before .before .before .before .before .before .before .before .before .before .creation-reason2 .ensures) (ap held (r .finds))
+    (c .before .before .before .before .before .before .before .before .before .before .before .before .enum-told2 .given .1) r (g .last .0) (g .ensures _ (wired (c .before .before .before .before .before .before)) (r .before) (r .after) (r .is) (r .stands))
+
+pub new-s-group-spec : {M : Type 1} → statement M
+new-s-group-spec =
+    tie.close
+    (tie.spec
+    slice-read-size
+    cast-size
+    slice-read-count
+    place-of-requires
+    enum-told
+    creation-reason-requires
+    enum-known-at
+    creation-reason-requires-2
+    enum-told-2
+    same-length
+    returns
+    leave-free-requires
+    interconnect-requires
+    insert-group-requires
+    same-length-2
+    returns-2
+    same-length-3
+    returns-3)

@@ -1,0 +1,166 @@
+// The steps of the commands that make, change and delete s_groups, on a sound table.
+use groups::delete_group;
+use groups::insert_group;
+use groups::set_members;
+use judge::creation_reason;
+use judge::group_reason;
+use judge::set_reason;
+use layout::COUNT_AT;
+use layout::MEMBERS_AT;
+use layout::SIZE_AT;
+use place::Access;
+use place::Place;
+use place::place_for;
+use place::place_of;
+use semantics::Answer;
+use semantics::Reason;
+use semantics::Value;
+use wires::become_free;
+use wires::interconnect;
+use wires::leave_free;
+ghost use mathlib.Core.Path.{_≡_};
+ghost use mathlib.Core.Bool.{true};
+ghost use lib.ListN.{length};
+ghost use Rattle.semantics.specs.Sizes.{names-per-group, table-words};
+ghost use Rattle.semantics.specs.Commands.{within, new-s-group, add-nodes, remove-nodes, delete-s-group};
+ghost use Rattle.semantics.specs.Test.{sound};
+ghost use Rattle.semantics.specs.Call.{call};
+
+// A new s_group of the set: its members are all connected and leave the free groups.
+pub fn new_s_group(t: &mut [u64], caller: u32, s: u32, set: u64) -> Answer
+    requires { ⌜ length (now t) ≡ table-words names-per-group ⌝ }
+    requires { ⌜ sound names-per-group (now t) ≡ true ⌝ }
+    ensures { λ r. ⌜ r ≡ call 0 caller (within (new-s-group s set)) (now (t .entry)) .answer ⌝ }
+    ensures { λ _. ⌜ now (t .exit) ≡ call 0 caller (within (new-s-group s set)) (now (t .entry)) .table ⌝ }
+{
+    let size = t[SIZE_AT] as u32;
+    let count = t[COUNT_AT] as usize;
+    match place_of(t, s) {
+        Place::At(_) => {
+            let reason = creation_reason(size, count, caller, s, set, true);
+            Answer {
+                value: Value::Error,
+                reason,
+            }
+        }
+        Place::Gap(at) => {
+            let reason = creation_reason(size, count, caller, s, set, false);
+            let Reason::Done = reason else {
+                return Answer {
+                    value: Value::Error,
+                    reason,
+                };
+            };
+            leave_free(t, set);
+            interconnect(t, set);
+            insert_group(t, at, s, set);
+            Answer {
+                value: Value::Grouped(s, set),
+                reason: Reason::Done,
+            }
+        }
+    }
+}
+
+// The set joins the s_group: all members are connected, and the set leaves the free groups.
+pub fn add_nodes(t: &mut [u64], caller: u32, s: u32, set: u64) -> Answer
+    requires { ⌜ length (now t) ≡ table-words names-per-group ⌝ }
+    requires { ⌜ sound names-per-group (now t) ≡ true ⌝ }
+    ensures { λ r. ⌜ r ≡ call 0 caller (within (add-nodes s set)) (now (t .entry)) .answer ⌝ }
+    ensures { λ _. ⌜ now (t .exit) ≡ call 0 caller (within (add-nodes s set)) (now (t .entry)) .table ⌝ }
+{
+    let reason = set_reason(t[SIZE_AT] as u32, caller, s, set);
+    let Reason::Done = reason else {
+        return Answer {
+            value: Value::Error,
+            reason,
+        };
+    };
+    match place_for(t, caller, s) {
+        Access::Denied(denial) => Answer {
+            value: Value::Error,
+            reason: denial,
+        },
+        Access::Member(at) => {
+            let members = nodes::union(t[MEMBERS_AT + at], set);
+            leave_free(t, set);
+            interconnect(t, members);
+            set_members(t, at, members);
+            Answer {
+                value: Value::Grouped(s, set),
+                reason: Reason::Done,
+            }
+        }
+    }
+}
+
+// The nodes of the set that are members leave the s_group; where none is left, it is deleted.
+pub fn remove_nodes(t: &mut [u64], caller: u32, s: u32, set: u64) -> Answer
+    requires { ⌜ length (now t) ≡ table-words names-per-group ⌝ }
+    requires { ⌜ sound names-per-group (now t) ≡ true ⌝ }
+    ensures { λ r. ⌜ r ≡ call 0 caller (remove-nodes s set) (now (t .entry)) .answer ⌝ }
+    ensures { λ _. ⌜ now (t .exit) ≡ call 0 caller (remove-nodes s set) (now (t .entry)) .table ⌝ }
+{
+    let reason = set_reason(t[SIZE_AT] as u32, caller, s, set);
+    let Reason::Done = reason else {
+        return Answer {
+            value: Value::Error,
+            reason,
+        };
+    };
+    match place_for(t, caller, s) {
+        Access::Denied(denial) => Answer {
+            value: Value::Error,
+            reason: denial,
+        },
+        Access::Member(at) => {
+            let members = t[MEMBERS_AT + at];
+            let left = nodes::diff(members, set);
+            if left == 0 {
+                delete_group(t, at);
+                become_free(t, members);
+                return Answer {
+                    value: Value::True,
+                    reason: Reason::Done,
+                };
+            }
+            set_members(t, at, left);
+            become_free(t, nodes::inter(members, set));
+            Answer {
+                value: Value::True,
+                reason: Reason::Done,
+            }
+        }
+    }
+}
+
+// The s_group goes, with its names.
+pub fn delete_s_group(t: &mut [u64], caller: u32, s: u32) -> Answer
+    requires { ⌜ length (now t) ≡ table-words names-per-group ⌝ }
+    requires { ⌜ sound names-per-group (now t) ≡ true ⌝ }
+    ensures { λ r. ⌜ r ≡ call 0 caller (delete-s-group s) (now (t .entry)) .answer ⌝ }
+    ensures { λ _. ⌜ now (t .exit) ≡ call 0 caller (delete-s-group s) (now (t .entry)) .table ⌝ }
+{
+    let reason = group_reason(t[SIZE_AT] as u32, caller, s);
+    let Reason::Done = reason else {
+        return Answer {
+            value: Value::Error,
+            reason,
+        };
+    };
+    match place_for(t, caller, s) {
+        Access::Denied(denial) => Answer {
+            value: Value::Error,
+            reason: denial,
+        },
+        Access::Member(at) => {
+            let members = t[MEMBERS_AT + at];
+            delete_group(t, at);
+            become_free(t, members);
+            Answer {
+                value: Value::True,
+                reason: Reason::Done,
+            }
+        }
+    }
+}

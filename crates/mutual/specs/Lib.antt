@@ -1,0 +1,3 @@
+pub mod Mutual
+pub mod Exchange
+pub mod Turning

@@ -1,0 +1,108 @@
+-- `naming::re_register_in` meets its contract: each return is a case of the rule; a name that is held gets the pid, and one that is not comes in.
+-- Assumes nothing.
+use borrow.Author.Needs.{needs}
+use mathlib.Core.Path.{_≡_, sym, _∙_}
+use mathlib.Core.Bool.{false}
+use native.Mathlib.Omega.{arith}
+use Rattle.entries.specs.Entries.{lookup}
+use Rattle.semantics.specs.Sizes.{names-per-group}
+use Rattle.semantics.specs.State.{State}
+use Rattle.semantics.specs.Commands.{held}
+use Rattle.semantics.specs.Names.{not-held}
+use Rattle.semantics.specs.Laid.{Laid}
+use Rattle.names.specs.Names.{Standing, names-at}
+use Rattle.names.specs.NamesHere.{standing}
+use Rattle.steps.specs.Settled.{not-replaced, pid-held-already, replaced, no-room-anew, registered-anew}
+use Rattle.naming.proofs.re_register_in.Statement.{statement}
+use Rattle.naming.proofs.re_register_in.Tie as tie
+
+-- the name is not held
+absent : (c : tie.Else2) → let a = c .before .before .before .before .before .before .before .before .before .args in
+    (st : State) → Laid names-per-group st (a .t .now) → Standing (a .at) st → held (lookup (a .n) (names-at (a .at) st)) ≡ false
+absent c st l g = sym (c .before .before .before .replace-name .ensures .0 st l g) ∙ c .if2 .left
+
+-- so that nothing changed
+still : (c : tie.Else2) → let a = c .before .before .before .before .before .before .before .before .before .args in
+    (st : State) → Laid names-per-group st (a .t .now) → Standing (a .at) st → Laid names-per-group st (c .before .before .before .replace-name .last .0)
+still c st l g =
+    let d = c .before .before .before in
+    let a = d .before .before .before .before .before .before .args in
+    not-replaced (a .at) (a .n) (a .p) st (absent c st l g) (d .replace-name .ensures .1 st l g)
+
+pid-held-requires : tie.Need-pid-held-requires
+pid-held-requires c κs = search needs
+
+same-length : tie.Need-same-length
+same-length c = search needs
+
+returns : tie.Need-returns
+returns c =
+    let h = c .before in
+    let a = h .before .before .before .args in
+    λ st l r s w. pid-held-already l w r (a .n) (a .p) (sym (h .pid-held .ensures st l (standing r w)) ∙ c .if1 .taken)
+
+replace-name-requires : tie.Need-replace-name-requires
+replace-name-requires c κs = search needs
+
+same-length-2 : tie.Need-same-length-2
+same-length-2 c = search needs
+
+returns-2 : tie.Need-returns-2
+returns-2 c =
+    let d = c .before .before .before in
+    let i = d .before .before in
+    let a = i .before .before .before .before .args in
+    λ st l r s w.
+    replaced l w r (a .n) (a .p) (sym (i .before .pid-held .ensures st l (standing r w)) ∙ i .if1 .left) (sym (d .replace-name .ensures .0 st l (standing r w)) ∙ c .if2 .taken)
+    (d .replace-name .last .0) (d .replace-name .ensures .1 st l (standing r w))
+
+names-count-requires : tie.Need-names-count-requires
+names-count-requires c κs = search needs
+
+same-length-3 : tie.Need-same-length-3
+same-length-3 c = search needs
+
+returns-3 : tie.Need-returns-3
+returns-3 c =
+    let q = c .before in
+    let e = q .before .before in
+    let i = e .before .before .before .before .before in
+    let a = i .before .before .before .before .args in
+    λ st l r s w.
+    no-room-anew (still e st l (standing r w)) w r (a .n) (a .p) (sym (i .before .pid-held .ensures st l (standing r w)) ∙ i .if1 .left) (absent e st l (standing r w))
+    (omega (arith, q .names-count .ensures, c .if3 .taken))
+
+add-name-requires : tie.Need-add-name-requires
+add-name-requires c κs = search needs
+
+same-length-4 : tie.Need-same-length-4
+same-length-4 c = search needs
+
+returns-4 : tie.Need-returns-4
+returns-4 c =
+    let z = c .before .before in
+    let f = z .before .before in
+    let e = f .before .before .before in
+    let i = e .before .before .before .before .before in
+    let a = i .before .before .before .before .args in
+    λ st l r s w.
+    registered-anew (still e st l (standing r w)) w r (a .n) (a .p) (sym (i .before .pid-held .ensures st l (standing r w)) ∙ i .if1 .left) (absent e st l (standing r w))
+    (omega (arith, f .before .names-count .ensures, f .if3 .left)) (z .add-name .last .0)
+    (z .add-name .ensures st (still e st l (standing r w)) (standing r w) (not-held _ (absent e st l (standing r w))))
+
+pub re-register-in-spec : {M : Type 1} → statement M
+re-register-in-spec =
+    tie.close
+    (tie.spec
+    pid-held-requires
+    same-length
+    returns
+    replace-name-requires
+    same-length-2
+    returns-2
+    names-count-requires
+    same-length-3
+    returns-3
+    add-name-requires
+    same-length-4
+    returns-4)

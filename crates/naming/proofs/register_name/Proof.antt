@@ -1,0 +1,98 @@
+-- `naming::register_name` meets its contract: refused by its arguments, denied by its place, or settled in its s_group.
+-- Assumes nothing.
+use borrow.Author.Needs.{needs}
+use native.Mathlib.Omega.{arith}
+use Rattle.semantics.specs.Table.{state-of}
+use Rattle.steps.specs.Judged.{step-register}
+use Rattle.place.specs.Seats.{Open}
+use Rattle.place.specs.Sound.{here, regular, base, nodes-few}
+use Rattle.steps.specs.Ends.{open-below, opened, says-refused, says-denied, says-settled}
+use Rattle.judge.proofs.Reasons.{not-done}
+use Rattle.naming.proofs.register_name.Statement.{statement}
+use Rattle.naming.proofs.register_name.Tie as tie
+
+-- the caller is a member of the s_group
+open-here : (c : tie.After-known-told) → let a = c .before .before .before .before .before .before .before .before .before .before .args in
+    Open (a .caller) (a .s) (c .before .at .given .0 .0) (here (a .t .now) .groups)
+open-here c =
+    let f = c .before .before .before in
+    let p = f .before .before .before .before .before .before .before in
+    opened (p .args .t .now) (p .pre .1) (p .args .caller) (p .args .s) (f .place-for .result) (f .place-for .ensures) (c .before .at .given .1)
+
+slice-read-size : tie.Need-slice-read-size
+slice-read-size c = search needs
+
+cast-size : tie.Need-cast-size
+cast-size c = let p = c .before .before in omega (arith, nodes-few (p .args .t .now) (p .pre .1))
+
+pid-reason-requires : tie.Need-pid-reason-requires
+pid-reason-requires c κs = search needs
+
+enum-told : tie.Need-enum-told
+enum-told c = search needs
+
+returns : tie.Need-returns
+unfolding state-of
+returns c =
+    let p = c .before .before .before .before in
+    says-refused (p .args .t .now) (p .pre .1) (step-register 0 (p .args .caller) (here (p .args .t .now)) (p .args .s) (p .args .n) (p .args .p)) (c .before .pid-reason .ensures)
+    (not-done (c .before .pid-reason .result) (c .match .keys2))
+
+place-for-requires : tie.Need-place-for-requires
+place-for-requires c κs = search needs
+
+enum-known-at : tie.Need-enum-known-at
+enum-known-at c = search needs
+
+register-in-requires : tie.Need-register-in-requires
+register-in-requires c κs =
+    let p = c .before .before .before .before .before .before .before .before .before .before .before in
+    (p .pre .0, open-below (p .args .t .now) (p .pre .1) (open-here (c .before)))
+
+enum-known-d : tie.Need-enum-known-d
+enum-known-d c = search needs
+
+same-length : tie.Need-same-length
+same-length c = search needs
+
+returns-2 : tie.Need-returns-2
+unfolding state-of
+returns-2 c =
+    let d = c .before .before in
+    let k = d .before .before in
+    let f = k .before .before .before in
+    let j = f .before .before in
+    let p = j .before .before .before .before .before in
+    let t = p .args .t .now in
+    says-settled t (p .pre .1) (step-register 0 (p .args .caller) (here (p .args .t .now)) (p .args .s) (p .args .n) (p .args .p)) (j .before .before .pid-reason .ensures) (j .enum-told .given .1) (open-here k)
+    (d .register-in .ensures (here t) (base t (p .pre .1)) (regular t (p .pre .1)) (p .args .s) (open-here k .seat))
+
+same-length-2 : tie.Need-same-length-2
+same-length-2 c = search needs
+
+returns-3 : tie.Need-returns-3
+unfolding state-of
+returns-3 c =
+    let f = c .before .before .before in
+    let j = f .before .before in
+    let p = j .before .before .before .before .before in
+    says-denied (p .args .t .now) (p .pre .1) (step-register 0 (p .args .caller) (here (p .args .t .now)) (p .args .s) (p .args .n) (p .args .p)) (j .before .before .pid-reason .ensures) (j .enum-told .given .1)
+    (f .place-for .result) (f .place-for .ensures) (c .before .d .given .1)
+
+pub register-name-spec : {M : Type 1} → statement M
+register-name-spec =
+    tie.close
+    (tie.spec
+    slice-read-size
+    cast-size
+    pid-reason-requires
+    enum-told
+    returns
+    place-for-requires
+    enum-known-at
+    register-in-requires
+    enum-known-d
+    same-length
+    returns-2
+    same-length-2
+    returns-3)

@@ -1,0 +1,183 @@
+// The steps of the three commands that change names: register_name, re_register_name, unregister_name.
+use entries::Found;
+use judge::name_reason;
+use judge::pid_reason;
+use layout::NAMES_PER_GROUP;
+use layout::SIZE_AT;
+use names::add_name;
+use names::drop_name;
+use names::find_name;
+use names::names_count;
+use names::pid_held;
+use names::replace_name;
+use place::Access;
+use place::place_for;
+use semantics::Answer;
+use semantics::Reason;
+use semantics::Value;
+ghost use mathlib.Core.Path.{_≡_};
+ghost use mathlib.Core.Bool.{true};
+ghost use Prim.Native.Nat.{ℕ, _<_};
+ghost use lib.ListN.{length};
+ghost use Rattle.semantics.specs.Sizes.{group-limit, names-per-group, table-words};
+ghost use Rattle.semantics.specs.State.{State};
+ghost use Rattle.semantics.specs.Commands.{within, register-name, re-register-name, unregister-name};
+ghost use Rattle.semantics.specs.Test.{sound};
+ghost use Rattle.semantics.specs.Call.{call};
+ghost use Rattle.semantics.specs.Regular.{Regular};
+ghost use Rattle.semantics.specs.Laid.{Laid};
+ghost use Rattle.steps.specs.Judged.{register-in, re-register-in, unregister-in};
+ghost use Rattle.place.specs.Seats.{Seat};
+ghost use Rattle.steps.specs.Settled.{Settles};
+
+// The name and the pid in the s_group at `at`, neither of which may be held.
+fn register_in(t: &mut [u64], at: usize, n: u32, p: u32) -> Answer
+    requires { ⌜ length (now t) ≡ table-words names-per-group ⌝ }
+    requires { ⌜ at < group-limit ⌝ }
+    ensures { λ r. ⌜ ((st : State) → Laid names-per-group st (now (t .entry)) → Regular names-per-group st → (s : ℕ) (w : Seat s at (st .groups)) → Settles s (register-in n p (w .group)) st r (now (t .exit))) ⌝ }
+{
+    if let Found::At(_, _) = find_name(t, at, n) {
+        return Answer {
+            value: Value::False,
+            reason: Reason::NameTaken,
+        };
+    }
+    if pid_held(t, at, p) {
+        return Answer {
+            value: Value::False,
+            reason: Reason::PidTaken,
+        };
+    }
+    if NAMES_PER_GROUP <= names_count(t, at) {
+        return Answer {
+            value: Value::False,
+            reason: Reason::NamespaceFull,
+        };
+    }
+    add_name(t, at, n, p);
+    Answer {
+        value: Value::True,
+        reason: Reason::Done,
+    }
+}
+
+// The name with this pid, which may not be held, in the s_group at `at`.
+fn re_register_in(t: &mut [u64], at: usize, n: u32, p: u32) -> Answer
+    requires { ⌜ length (now t) ≡ table-words names-per-group ⌝ }
+    requires { ⌜ at < group-limit ⌝ }
+    ensures { λ r. ⌜ ((st : State) → Laid names-per-group st (now (t .entry)) → Regular names-per-group st → (s : ℕ) (w : Seat s at (st .groups)) → Settles s (re-register-in n p (w .group)) st r (now (t .exit))) ⌝ }
+{
+    if pid_held(t, at, p) {
+        return Answer {
+            value: Value::False,
+            reason: Reason::PidTaken,
+        };
+    }
+    if replace_name(t, at, n, p) {
+        return Answer {
+            value: Value::True,
+            reason: Reason::Done,
+        };
+    }
+    if NAMES_PER_GROUP <= names_count(t, at) {
+        return Answer {
+            value: Value::False,
+            reason: Reason::NamespaceFull,
+        };
+    }
+    add_name(t, at, n, p);
+    Answer {
+        value: Value::True,
+        reason: Reason::Done,
+    }
+}
+
+// The s_group at `at` without the name.
+fn unregister_in(t: &mut [u64], at: usize, n: u32) -> Answer
+    requires { ⌜ length (now t) ≡ table-words names-per-group ⌝ }
+    requires { ⌜ at < group-limit ⌝ }
+    ensures { λ r. ⌜ ((st : State) → Laid names-per-group st (now (t .entry)) → Regular names-per-group st → (s : ℕ) (w : Seat s at (st .groups)) → Settles s (unregister-in n (w .group)) st r (now (t .exit))) ⌝ }
+{
+    if drop_name(t, at, n) {
+        return Answer {
+            value: Value::True,
+            reason: Reason::Done,
+        };
+    }
+    Answer {
+        value: Value::True,
+        reason: Reason::NotRegistered,
+    }
+}
+
+// The step of register_name.
+pub fn register_name(t: &mut [u64], caller: u32, s: u32, n: u32, p: u32) -> Answer
+    requires { ⌜ length (now t) ≡ table-words names-per-group ⌝ }
+    requires { ⌜ sound names-per-group (now t) ≡ true ⌝ }
+    ensures { λ r. ⌜ r ≡ call 0 caller (within (register-name s n p)) (now (t .entry)) .answer ⌝ }
+    ensures { λ _. ⌜ now (t .exit) ≡ call 0 caller (within (register-name s n p)) (now (t .entry)) .table ⌝ }
+{
+    let size = t[SIZE_AT] as u32;
+    let r = pid_reason(size, caller, s, n, p);
+    let Reason::Done = r else {
+        return Answer {
+            value: Value::Error,
+            reason: r,
+        };
+    };
+    match place_for(t, caller, s) {
+        Access::Member(at) => register_in(t, at, n, p),
+        Access::Denied(d) => Answer {
+            value: Value::False,
+            reason: d,
+        },
+    }
+}
+
+// The step of re_register_name.
+pub fn re_register_name(t: &mut [u64], caller: u32, s: u32, n: u32, p: u32) -> Answer
+    requires { ⌜ length (now t) ≡ table-words names-per-group ⌝ }
+    requires { ⌜ sound names-per-group (now t) ≡ true ⌝ }
+    ensures { λ r. ⌜ r ≡ call 0 caller (within (re-register-name s n p)) (now (t .entry)) .answer ⌝ }
+    ensures { λ _. ⌜ now (t .exit) ≡ call 0 caller (within (re-register-name s n p)) (now (t .entry)) .table ⌝ }
+{
+    let size = t[SIZE_AT] as u32;
+    let r = pid_reason(size, caller, s, n, p);
+    let Reason::Done = r else {
+        return Answer {
+            value: Value::Error,
+            reason: r,
+        };
+    };
+    match place_for(t, caller, s) {
+        Access::Member(at) => re_register_in(t, at, n, p),
+        Access::Denied(d) => Answer {
+            value: Value::False,
+            reason: d,
+        },
+    }
+}
+
+// The step of unregister_name.
+pub fn unregister_name(t: &mut [u64], caller: u32, s: u32, n: u32) -> Answer
+    requires { ⌜ length (now t) ≡ table-words names-per-group ⌝ }
+    requires { ⌜ sound names-per-group (now t) ≡ true ⌝ }
+    ensures { λ r. ⌜ r ≡ call 0 caller (within (unregister-name s n)) (now (t .entry)) .answer ⌝ }
+    ensures { λ _. ⌜ now (t .exit) ≡ call 0 caller (within (unregister-name s n)) (now (t .entry)) .table ⌝ }
+{
+    let size = t[SIZE_AT] as u32;
+    let r = name_reason(size, caller, s, n);
+    let Reason::Done = r else {
+        return Answer {
+            value: Value::Error,
+            reason: r,
+        };
+    };
+    match place_for(t, caller, s) {
+        Access::Member(at) => unregister_in(t, at, n),
+        Access::Denied(d) => Answer {
+            value: Value::False,
+            reason: d,
+        },
+    }
+}

@@ -1,0 +1,104 @@
+-- `reaching::send_name` meets its contract: a refusal, or what the caller finds is told, and it connects with the host of a pid.
+-- Assumes nothing.
+use borrow.Author.Needs.{needs}
+use mathlib.Core.Path.{_≡_, sym, ap, _∙_}
+use native.Mathlib.Omega.{arith}
+use lib.ListN.{getD}
+use Rattle.semantics.specs.Table.{state-of}
+use Rattle.semantics.specs.Steps.{ask}
+use Rattle.lookup.specs.declared.Lookup.the-variants.{Found, Missing}
+use Rattle.judge.specs.Passed.{group-done, name-done}
+use Rattle.lookup.specs.Looked.{looked-up}
+use Rattle.place.specs.Sound.{here, regular, base, nodes-few}
+use Rattle.steps.specs.Judged.{refused, step-send-name}
+use Rattle.steps.specs.Calls.{says-kept}
+use Rattle.reaching.specs.Reaching.{in-limit, host-here, send-name-told}
+use Rattle.judge.proofs.Reasons.{not-done}
+use Rattle.reaching.proofs.send_name.Statement.{statement}
+use Rattle.reaching.proofs.send_name.Tie as tie
+
+-- the pid that is found
+found : (c : tie.After-known-told) → let a = c .before .before .before .before .before .before .before .before .before .before .args in looked-up (Found (c .before .p .given .0 .0)) ≡ ask (a .caller) (a .s) (a .n) (here (a .t .now))
+found c = ap looked-up (sym (c .before .p .given .1)) ∙ c .before .before .before .look .ensures
+
+slice-read-name-reason : tie.Need-slice-read-name-reason
+slice-read-name-reason c = search needs
+
+cast-name-reason : tie.Need-cast-name-reason
+cast-name-reason c = let p = c .before .before in omega (arith, nodes-few (p .args .t .now) (p .pre .1))
+
+name-reason-requires : tie.Need-name-reason-requires
+name-reason-requires c κs = search needs
+
+enum-told : tie.Need-enum-told
+enum-told c = search needs
+
+returns : tie.Need-returns
+unfolding state-of
+returns c =
+    let p = c .before .before .before .before in
+    let a = p .args in
+    says-kept (a .t .now) (p .pre .1)
+    (refused (step-send-name 0 (a .caller) (here (a .t .now)) (a .s) (a .n)) (c .before .name-reason .ensures) (not-done (c .before .name-reason .result) (c .match .keys2)))
+
+look-requires : tie.Need-look-requires
+look-requires c κs = search needs
+
+enum-known-p : tie.Need-enum-known-p
+enum-known-p c = search needs
+
+connect-requires : tie.Need-connect-requires
+unfolding state-of
+connect-requires c κs =
+    let p = c .before .before .before .before .before .before .before .before .before .before .before in
+    let a = p .args in
+    let N = getD (a .t .now) 0 0 in
+    let d = group-done N (a .caller) (a .s) (name-done N (a .caller) (a .s) (a .n) (sym (c .before .before .before .before .before .before .before .before .name-reason .ensures) ∙ c .before .before .before .before .before .before .enum-told .given .1) .0) in
+    (p .pre .0, (in-limit (a .t .now) (p .pre .1) (d .0), in-limit (a .t .now) (p .pre .1) (host-here (a .t .now) (p .pre .1) (a .caller) (a .s) (a .n) _ (found (c .before)))))
+
+enum-known-why : tie.Need-enum-known-why
+enum-known-why c = search needs
+
+same-length : tie.Need-same-length
+same-length c = search needs
+
+returns-2 : tie.Need-returns-2
+unfolding state-of
+returns-2 c =
+    let p = c .before .before .before .before .before .before .before .before .before .before .before .before .before .before in
+    let a = p .args in
+    let t = a .t .now in
+    let k = c .before .before .connect in
+    send-name-told t (p .pre .1) (a .caller) (a .s) (a .n) (c .before .before .before .before .before .before .before .before .before .before .before .name-reason .ensures) (c .before .before .before .before .before .before .before .before .before .enum-told .given .1)
+    (Found (c .before .before .before .before .before .p .given .0 .0)) (found (c .before .before .before .before)) (k .last .0)
+    (k .ensures (here t) (base t (p .pre .1)) (regular t (p .pre .1)))
+
+same-length-2 : tie.Need-same-length-2
+same-length-2 c = search needs
+
+returns-3 : tie.Need-returns-3
+unfolding state-of
+returns-3 c =
+    let p = c .before .before .before .before .before .before .before .before .before .before in
+    let a = p .args in
+    let t = a .t .now in
+    send-name-told t (p .pre .1) (a .caller) (a .s) (a .n) (c .before .before .before .before .before .before .before .name-reason .ensures) (c .before .before .before .before .before .enum-told .given .1)
+    (Missing (c .before .why .given .0 .0)) (ap looked-up (sym (c .before .why .given .1)) ∙ c .before .before .before .look .ensures) t (base t (p .pre .1))
+
+pub send-name-spec : {M : Type 1} → statement M
+send-name-spec =
+    tie.close
+    (tie.spec
+    slice-read-name-reason
+    cast-name-reason
+    name-reason-requires
+    enum-told
+    returns
+    look-requires
+    enum-known-p
+    connect-requires
+    enum-known-why
+    same-length
+    returns-2
+    same-length-2
+    returns-3)

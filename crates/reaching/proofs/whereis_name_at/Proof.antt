@@ -1,0 +1,100 @@
+-- `reaching::whereis_name_at` meets its contract: a refusal, or the caller connects with the node and what the node finds is told.
+-- Assumes nothing.
+use borrow.Author.Needs.{needs}
+use mathlib.Core.Path.{sym, ap, _∙_}
+use native.Mathlib.Omega.{arith}
+use lib.ListN.{getD}
+use Rattle.semantics.specs.Table.{state-of}
+use Rattle.lookup.specs.declared.Lookup.the-variants.{Found, Missing}
+use Rattle.judge.specs.Passed.{asking-done}
+use Rattle.lookup.specs.Looked.{looked-up}
+use Rattle.place.specs.Sound.{here, regular, base, nodes-few}
+use Rattle.steps.specs.Judged.{refused, step-whereis-at}
+use Rattle.steps.specs.Calls.{says-kept}
+use Rattle.reaching.specs.Reaching.{in-limit, whereis-told}
+use Rattle.judge.proofs.Reasons.{not-done}
+use Rattle.reaching.proofs.whereis_name_at.Statement.{statement}
+use Rattle.reaching.proofs.whereis_name_at.Tie as tie
+
+slice-read-asking-reason : tie.Need-slice-read-asking-reason
+slice-read-asking-reason c = search needs
+
+cast-asking-reason : tie.Need-cast-asking-reason
+cast-asking-reason c = let p = c .before .before in omega (arith, nodes-few (p .args .t .now) (p .pre .1))
+
+asking-reason-requires : tie.Need-asking-reason-requires
+asking-reason-requires c κs = search needs
+
+enum-told : tie.Need-enum-told
+enum-told c = search needs
+
+returns : tie.Need-returns
+unfolding state-of
+returns c =
+    let p = c .before .before .before .before in
+    let a = p .args in
+    says-kept (a .t .now) (p .pre .1)
+    (refused (step-whereis-at 0 (a .caller) (here (a .t .now)) (a .node) (a .s) (a .n)) (c .before .asking-reason .ensures) (not-done (c .before .asking-reason .result) (c .match .keys2)))
+
+look-requires : tie.Need-look-requires
+look-requires c κs = search needs
+
+connect-requires : tie.Need-connect-requires
+unfolding state-of
+connect-requires c κs =
+    let p = c .before .before .before .before .before .before .before .before in
+    let a = p .args in
+    let d = asking-done (getD (a .t .now) 0 0) (a .caller) (a .node) (a .s) (a .n) (sym (c .before .before .before .before .before .asking-reason .ensures) ∙ c .before .before .before .enum-told .given .1) in
+    (p .pre .0, (in-limit (a .t .now) (p .pre .1) (d .0), in-limit (a .t .now) (p .pre .1) (d .3)))
+
+enum-known-seen : tie.Need-enum-known-seen
+enum-known-seen c = search needs
+
+enum-known-seen-2 : tie.Need-enum-known-seen-2
+enum-known-seen-2 c = search needs
+
+same-length : tie.Need-same-length
+same-length c = search needs
+
+returns-2 : tie.Need-returns-2
+unfolding state-of
+returns-2 c =
+    let p = c .before .before .before .before .before .before .before .before .before .before .before .before .before .before in
+    let a = p .args in
+    let t = a .t .now in
+    let k = c .before .before .before .before .before .connect in
+    whereis-told t (p .pre .1) (a .caller) (a .node) (a .s) (a .n) (c .before .before .before .before .before .before .before .before .before .before .before .asking-reason .ensures) (c .before .before .before .before .before .before .before .before .before .enum-told .given .1)
+    (Found (c .before .seen .given .0 .0)) (ap looked-up (sym (c .before .seen .given .1)) ∙ c .before .before .before .before .before .before .before .look .ensures) (k .last .0)
+    (k .ensures (here t) (base t (p .pre .1)) (regular t (p .pre .1)))
+
+same-length-2 : tie.Need-same-length-2
+same-length-2 c = search needs
+
+returns-3 : tie.Need-returns-3
+unfolding state-of
+returns-3 c =
+    let p = c .before .before .before .before .before .before .before .before .before .before .before .before .before .before in
+    let a = p .args in
+    let t = a .t .now in
+    let k = c .before .before .before .before .before .connect in
+    whereis-told t (p .pre .1) (a .caller) (a .node) (a .s) (a .n) (c .before .before .before .before .before .before .before .before .before .before .before .asking-reason .ensures) (c .before .before .before .before .before .before .before .before .before .enum-told .given .1)
+    (Missing (c .before .seen2 .given .0 .0)) (ap looked-up (sym (c .before .seen2 .given .1)) ∙ c .before .before .before .before .before .before .before .look .ensures) (k .last .0)
+    (k .ensures (here t) (base t (p .pre .1)) (regular t (p .pre .1)))
+
+pub whereis-name-at-spec : {M : Type 1} → statement M
+whereis-name-at-spec =
+    tie.close
+    (tie.spec
+    slice-read-asking-reason
+    cast-asking-reason
+    asking-reason-requires
+    enum-told
+    returns
+    look-requires
+    connect-requires
+    enum-known-seen
+    enum-known-seen-2
+    same-length
+    returns-2
+    same-length-2
+    returns-3)

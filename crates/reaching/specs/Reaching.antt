@@ -1,0 +1,73 @@
+-- What the steps of the lookup by another node and of the sends have at their returns, on a sound table. Assumes nothing.
+use mathlib.Core.Path.{_≡_, refl, sym, ap, subst}
+use mathlib.Core.Bool.{Bool, true, false, cond}
+use mathlib.Core.Option.{Option, none, some}
+use mathlib.Core.List.{List}
+use Prim.Native.Nat.{ℕ, _<_}
+use native.Mathlib.Omega.{arith}
+use lib.Dec.{eqb}
+use Rattle.nodes.specs.Sets.{node-limit, has}
+use Rattle.entries.specs.Entries.{host, lookup}
+use Rattle.semantics.specs.Sizes.{names-per-group}
+use Rattle.semantics.specs.State.{Group, State, find}
+use Rattle.semantics.specs.Commands.{answer-of, whereis-name-at, send-at, send-name}
+use Rattle.semantics.specs.Steps.{connect, pid-or-undefined, Looked, looked, nothing-found, look-in, ask, send-on}
+use Rattle.semantics.specs.Test.{sound}
+use Rattle.semantics.specs.Regular.{Regular}
+use Rattle.semantics.specs.Names.{host-found}
+use Rattle.semantics.specs.Changed.{regular-found}
+use Rattle.semantics.specs.Laid.{Laid}
+use Rattle.semantics.specs.declared.Reason.{Reason}
+use Rattle.semantics.specs.declared.Reason.the-variants.{Done, NotRegistered, NotMember}
+use Rattle.lookup.specs.declared.Lookup.{Lookup}
+use Rattle.lookup.specs.declared.Lookup.the-variants.{Found}
+use Rattle.judge.specs.Judge.{name-reason, asking-reason}
+use Rattle.lookup.specs.Looked.{looked-up}
+use Rattle.place.specs.Sound.{here, regular}
+use Rattle.steps.specs.Judged.{passed, step-whereis-at, step-send-at, step-send-name}
+use Rattle.steps.specs.Calls.{Says, says}
+
+-- a pid that is found has its host on the roster
+pub host-asked : {cap : ℕ} {st : State} → Regular cap st → (j s n p : ℕ) → ask j s n st .found ≡ some p → host p < st .size
+host-asked {st = st} w j s n p = go (eqb s 0) (find s (st .groups)) refl
+  where
+    for-node : (x : Bool) (g : Group) → find s (st .groups) ≡ some g → (cond x (looked (lookup n (g .names))) (nothing-found NotMember)) .found ≡ some p → host p < st .size
+    for-node true g f q = host-found (st .size) n p (g .names) (regular-found w s g f .names-sound .hosts) q
+    for-node false g f q = let z : _≡_ {A = ℕ} 0 1 = cc in absurd (omega arith)
+
+    go : (x : Bool) (o : Option Group) → find s (st .groups) ≡ o → (cond x (nothing-found NotRegistered) (look-in j n o)) .found ≡ some p → host p < st .size
+    go true o f q = let z : _≡_ {A = ℕ} 0 1 = cc in absurd (omega arith)
+    go false none f q = let z : _≡_ {A = ℕ} 0 1 = cc in absurd (omega arith)
+    go false (some g) f q = for-node (has (g .members) j) g f q
+
+module _ (t : List ℕ) (ok : sound names-per-group t ≡ true) where
+  -- a node of the roster is one of those that there can be
+  pub in-limit : {i : ℕ} → i < here t .size → i < node-limit
+  in-limit h = omega (arith, h, regular t ok .size-high)
+
+  -- the host of a pid that the code found
+  pub host-here : (j s n p : ℕ) → looked-up (Found p) ≡ ask j s n (here t) → host p < here t .size
+  host-here j s n p e = host-asked (regular t ok) j s n p (ap (λ (l : Looked). l .found) (sym e))
+
+module _ (t : List ℕ) (ok : sound names-per-group t ≡ true) (i : ℕ) where
+  module _ (j s n : ℕ) {q : Reason} (e : q ≡ asking-reason (here t .size) i j s n) (h : q ≡ Done) (x : Lookup) (f : looked-up x ≡ ask j s n (here t)) (u : List ℕ) where
+    pub whereis-told : Laid names-per-group (connect i j (here t)) u
+        → Says 0 i (whereis-name-at j s n) t (answer-of (pid-or-undefined (looked-up x .found)) (looked-up x .reason)) u
+    whereis-told l =
+        subst (λ (y : Looked). Says 0 i (whereis-name-at j s n) t (answer-of (pid-or-undefined (y .found)) (y .reason)) u) (sym f)
+        (says t ok (passed (step-whereis-at 0 i (here t) j s n) e h) u l)
+
+    pub send-at-told : Laid names-per-group (send-on i (looked-up x .found) (connect i j (here t))) u
+        → Says 0 i (send-at j s n) t (answer-of (pid-or-undefined (looked-up x .found)) (looked-up x .reason)) u
+    send-at-told =
+        subst (λ (y : Looked). Laid names-per-group (send-on i (y .found) (connect i j (here t))) u
+        → Says 0 i (send-at j s n) t (answer-of (pid-or-undefined (y .found)) (y .reason)) u) (sym f)
+        (says t ok (passed (step-send-at 0 i (here t) j s n) e h) u)
+
+  module _ (s n : ℕ) {q : Reason} (e : q ≡ name-reason (here t .size) i s n) (h : q ≡ Done) (x : Lookup) (f : looked-up x ≡ ask i s n (here t)) (u : List ℕ) where
+    pub send-name-told : Laid names-per-group (send-on i (looked-up x .found) (here t)) u
+        → Says 0 i (send-name s n) t (answer-of (pid-or-undefined (looked-up x .found)) (looked-up x .reason)) u
+    send-name-told =
+        subst (λ (y : Looked). Laid names-per-group (send-on i (y .found) (here t)) u
+        → Says 0 i (send-name s n) t (answer-of (pid-or-undefined (y .found)) (y .reason)) u) (sym f)
+        (says t ok (passed (step-send-name 0 i (here t) s n) e h) u)

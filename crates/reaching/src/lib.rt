@@ -1,0 +1,129 @@
+// The steps of the lookup by another node and of the sends, on a sound table. The connection that a lookup or a send asks for is made once its
+// arguments pass, whether a pid is found or not.
+use entries::PIDS_PER_HOST;
+use judge::asking_reason;
+use judge::host_reason;
+use judge::name_reason;
+use layout::SIZE_AT;
+use lookup::Lookup;
+use lookup::look;
+use semantics::Answer;
+use semantics::Reason;
+use semantics::Value;
+use wires::connect;
+ghost use mathlib.Core.Path.{_≡_};
+ghost use mathlib.Core.Bool.{true};
+ghost use lib.ListN.{length};
+ghost use Rattle.semantics.specs.Sizes.{names-per-group, table-words};
+ghost use Rattle.semantics.specs.Commands.{whereis-name-at, send, send-name, send-at};
+ghost use Rattle.semantics.specs.Test.{sound};
+ghost use Rattle.semantics.specs.Call.{call};
+
+// What the node finds under the name in the s_group; the caller connects with the node.
+pub fn whereis_name_at(t: &mut [u64], caller: u32, node: u32, s: u32, n: u32) -> Answer
+    requires { ⌜ length (now t) ≡ table-words names-per-group ⌝ }
+    requires { ⌜ sound names-per-group (now t) ≡ true ⌝ }
+    ensures { λ r. ⌜ r ≡ call 0 caller (whereis-name-at node s n) (now (t .entry)) .answer ⌝ }
+    ensures { λ _. ⌜ now (t .exit) ≡ call 0 caller (whereis-name-at node s n) (now (t .entry)) .table ⌝ }
+{
+    let reason = asking_reason(t[SIZE_AT] as u32, caller, node, s, n);
+    let Reason::Done = reason else {
+        return Answer {
+            value: Value::Error,
+            reason,
+        };
+    };
+    let seen = look(t, node, s, n);
+    connect(t, caller, node);
+    match seen {
+        Lookup::Found(p) => Answer {
+            value: Value::Pid(p),
+            reason: Reason::Done,
+        },
+        Lookup::Missing(why) => Answer {
+            value: Value::Undefined,
+            reason: why,
+        },
+    }
+}
+
+// The caller connects with the pid's host.
+pub fn send(t: &mut [u64], caller: u32, p: u32) -> Answer
+    requires { ⌜ length (now t) ≡ table-words names-per-group ⌝ }
+    requires { ⌜ sound names-per-group (now t) ≡ true ⌝ }
+    ensures { λ r. ⌜ r ≡ call 0 caller (send p) (now (t .entry)) .answer ⌝ }
+    ensures { λ _. ⌜ now (t .exit) ≡ call 0 caller (send p) (now (t .entry)) .table ⌝ }
+{
+    let reason = host_reason(t[SIZE_AT] as u32, caller, p);
+    let Reason::Done = reason else {
+        return Answer {
+            value: Value::Error,
+            reason,
+        };
+    };
+    connect(t, caller, p / PIDS_PER_HOST);
+    Answer {
+        value: Value::Pid(p),
+        reason: Reason::Done,
+    }
+}
+
+// A send to the pid that the caller finds under the name.
+pub fn send_name(t: &mut [u64], caller: u32, s: u32, n: u32) -> Answer
+    requires { ⌜ length (now t) ≡ table-words names-per-group ⌝ }
+    requires { ⌜ sound names-per-group (now t) ≡ true ⌝ }
+    ensures { λ r. ⌜ r ≡ call 0 caller (send-name s n) (now (t .entry)) .answer ⌝ }
+    ensures { λ _. ⌜ now (t .exit) ≡ call 0 caller (send-name s n) (now (t .entry)) .table ⌝ }
+{
+    let reason = name_reason(t[SIZE_AT] as u32, caller, s, n);
+    let Reason::Done = reason else {
+        return Answer {
+            value: Value::Error,
+            reason,
+        };
+    };
+    match look(t, caller, s, n) {
+        Lookup::Found(p) => {
+            connect(t, caller, p / PIDS_PER_HOST);
+            Answer {
+                value: Value::Pid(p),
+                reason: Reason::Done,
+            }
+        }
+        Lookup::Missing(why) => Answer {
+            value: Value::Undefined,
+            reason: why,
+        },
+    }
+}
+
+// A send to the pid that the node finds under the name; the caller connects with the node, and with the host of a pid that is found.
+pub fn send_at(t: &mut [u64], caller: u32, node: u32, s: u32, n: u32) -> Answer
+    requires { ⌜ length (now t) ≡ table-words names-per-group ⌝ }
+    requires { ⌜ sound names-per-group (now t) ≡ true ⌝ }
+    ensures { λ r. ⌜ r ≡ call 0 caller (send-at node s n) (now (t .entry)) .answer ⌝ }
+    ensures { λ _. ⌜ now (t .exit) ≡ call 0 caller (send-at node s n) (now (t .entry)) .table ⌝ }
+{
+    let reason = asking_reason(t[SIZE_AT] as u32, caller, node, s, n);
+    let Reason::Done = reason else {
+        return Answer {
+            value: Value::Error,
+            reason,
+        };
+    };
+    let found = look(t, node, s, n);
+    connect(t, caller, node);
+    match found {
+        Lookup::Found(pid) => {
+            connect(t, caller, pid / PIDS_PER_HOST);
+            Answer {
+                value: Value::Pid(pid),
+                reason: Reason::Done,
+            }
+        }
+        Lookup::Missing(why) => Answer {
+            value: Value::Undefined,
+            reason: why,
+        },
+    }
+}

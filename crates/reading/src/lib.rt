@@ -1,0 +1,100 @@
+// The steps of registered_names and whereis_name.
+use entries::Counted;
+use judge::group_reason;
+use judge::name_reason;
+use layout::BODIES_AT;
+use layout::NAMES_PER_GROUP;
+use layout::SIZE_AT;
+use lookup::Lookup;
+use lookup::look;
+use names::names_count;
+use place::Access;
+use place::place_for;
+use semantics::Answer;
+use semantics::Reason;
+use semantics::Value;
+ghost use mathlib.Core.Path.{_≡_};
+ghost use mathlib.Core.Bool.{true};
+ghost use Prim.Native.Nat.{_<_};
+ghost use lib.ListN.{length};
+ghost use Rattle.semantics.specs.Sizes.{group-limit, names-per-group, table-words};
+ghost use Rattle.semantics.specs.State.{State};
+ghost use Rattle.semantics.specs.Commands.{within, registered-names, whereis-name};
+ghost use Rattle.semantics.specs.Test.{sound};
+ghost use Rattle.semantics.specs.Call.{call, listed-over};
+ghost use Rattle.semantics.specs.Places.{group-at};
+ghost use Rattle.semantics.specs.Laid.{Laid};
+ghost use Rattle.steps.specs.Judged.{names-in};
+ghost use Rattle.names.specs.Names.{Standing};
+ghost use Rattle.steps.specs.Listing.{Told};
+
+// The names of the s_group `s`, which stands at `at`, in the run, where it has room.
+fn list_names(t: &[u64], at: usize, s: u32, out: &mut [u64]) -> Answer
+    requires { ⌜ length (now t) ≡ table-words names-per-group ⌝ }
+    requires { ⌜ at < group-limit ⌝ }
+    ensures { λ r. ⌜ ((st : State) → Laid names-per-group st (now (t .entry)) → Standing at st → Told (names-in (length (now (out .entry))) s (group-at (st .groups) at)) (now (out .entry)) r (now (out .exit))) ⌝ }
+{
+    let count = names_count(t, at);
+    let start = BODIES_AT + NAMES_PER_GROUP * at;
+    let end = start + NAMES_PER_GROUP;
+    match namespace::list_names(&t[start..end], count, s, out) {
+        Counted::Of(words) => Answer {
+            value: Value::Listed(words),
+            reason: Reason::Done,
+        },
+        Counted::Unfit => Answer {
+            value: Value::Error,
+            reason: Reason::RunShort,
+        },
+    }
+}
+
+// The step of registered_names.
+pub fn registered_names(t: &[u64], caller: u32, s: u32, out: &mut [u64]) -> Answer
+    requires { ⌜ length (now t) ≡ table-words names-per-group ⌝ }
+    requires { ⌜ sound names-per-group (now t) ≡ true ⌝ }
+    ensures { λ r. ⌜ r ≡ call (length (now (out .entry))) caller (within (registered-names s)) (now (t .entry)) .answer ⌝ }
+    ensures { λ _. ⌜ now (out .exit) ≡ listed-over (call (length (now (out .entry))) caller (within (registered-names s)) (now (t .entry)) .list) (now (out .entry)) ⌝ }
+{
+    let size = t[SIZE_AT] as u32;
+    let r = group_reason(size, caller, s);
+    let Reason::Done = r else {
+        return Answer {
+            value: Value::Error,
+            reason: r,
+        };
+    };
+    match place_for(t, caller, s) {
+        Access::Member(at) => list_names(t, at, s, out),
+        Access::Denied(d) => Answer {
+            value: Value::Listed(0),
+            reason: d,
+        },
+    }
+}
+
+// The step of whereis_name.
+pub fn whereis_name(t: &[u64], caller: u32, s: u32, n: u32) -> Answer
+    requires { ⌜ length (now t) ≡ table-words names-per-group ⌝ }
+    requires { ⌜ sound names-per-group (now t) ≡ true ⌝ }
+    ensures { λ r. ⌜ r ≡ call 0 caller (within (whereis-name s n)) (now (t .entry)) .answer ⌝ }
+{
+    let size = t[SIZE_AT] as u32;
+    let r = name_reason(size, caller, s, n);
+    let Reason::Done = r else {
+        return Answer {
+            value: Value::Error,
+            reason: r,
+        };
+    };
+    match look(t, caller, s, n) {
+        Lookup::Found(p) => Answer {
+            value: Value::Pid(p),
+            reason: Reason::Done,
+        },
+        Lookup::Missing(d) => Answer {
+            value: Value::Undefined,
+            reason: d,
+        },
+    }
+}

@@ -1,0 +1,5 @@
+pub mod Judged
+pub mod Calls
+pub mod Settled
+pub mod Ends
+pub mod Listing

@@ -1,0 +1,4 @@
+pub mod Turns
+pub mod Lists
+pub mod Reads
+pub mod Acts

@@ -1,0 +1,73 @@
+-- The fifteen commands as a script writes them, and the number of each: its place in this list, from 1. Assumes nothing.
+use mathlib.Core.Bool.{Bool, true, false, _&&_, cond}
+use mathlib.Core.List.{List, [], _∷_}
+use Prim.Native.Nat.{ℕ, suc}
+use lib.Dec.{eqb}
+use Rattle.semantics.specs.Commands.{Command, within, register-name, re-register-name, unregister-name, registered-names, whereis-name, new-s-group, add-nodes, whereis-name-at, send, send-name, send-at, remove-nodes, delete-s-group, own-nodes, own-s-groups}
+use Rattle.semantics.specs.Test.{same}
+use Rattle.fields.specs.Text.{bytes}
+
+-- a command word with a number of arguments; whether the second is a set of nodes, of 64 bits; the command that it is: its arguments of 32 bits
+-- are a, b and c in their order, and set is the set of nodes
+pub record Form : Type 0 where
+  pub word : List ℕ
+  pub arguments : ℕ
+  pub takes-set : Bool
+  pub command : (a b c set : ℕ) → Command
+
+-- a form whose arguments all have 32 bits
+abbrev pub narrow-form : List ℕ → ℕ → (ℕ → ℕ → ℕ → Command) → Form
+narrow-form w n f = record { word = w; arguments = n; takes-set = false; command = λ a b c set. f a b c }
+
+-- a form that takes an s_group and a set of nodes
+abbrev pub set-form : List ℕ → (ℕ → ℕ → Command) → Form
+set-form w f = record { word = w; arguments = 2; takes-set = true; command = λ a b c set. f a set }
+
+-- own_s_groups, the last of them
+abbrev pub last-form : Form
+last-form = narrow-form (bytes "own_s_groups") 0 (λ a b c. own-s-groups)
+
+-- the fifteen commands in 01's order
+unfoldable pub forms : List Form
+forms =
+    narrow-form (bytes "register_name") 3 (λ s n p. within (register-name s n p))
+    ∷ narrow-form (bytes "re_register_name") 3 (λ s n p. within (re-register-name s n p))
+    ∷ narrow-form (bytes "unregister_name") 2 (λ s n c. within (unregister-name s n))
+    ∷ narrow-form (bytes "registered_names") 1 (λ s b c. within (registered-names s))
+    ∷ narrow-form (bytes "whereis_name") 2 (λ s n c. within (whereis-name s n))
+    ∷ narrow-form (bytes "whereis_name") 3 (λ j s n. whereis-name-at j s n)
+    ∷ narrow-form (bytes "send") 1 (λ p b c. send p)
+    ∷ narrow-form (bytes "send") 2 (λ s n c. send-name s n)
+    ∷ narrow-form (bytes "send") 3 (λ j s n. send-at j s n)
+    ∷ set-form (bytes "new_s_group") (λ s set. within (new-s-group s set))
+    ∷ set-form (bytes "add_nodes") (λ s set. within (add-nodes s set))
+    ∷ set-form (bytes "remove_nodes") (λ s set. remove-nodes s set)
+    ∷ narrow-form (bytes "delete_s_group") 1 (λ s b c. delete-s-group s)
+    ∷ narrow-form (bytes "own_nodes") 0 (λ a b c. own-nodes)
+    ∷ last-form
+    ∷ []
+
+-- the number of the form with this word and so many arguments, counted from k, or 0 where there is none
+unfoldable pub number-from : ℕ → List ℕ → ℕ → List Form → ℕ
+number-from k w n [] = 0
+number-from k w n (f ∷ fs) = cond (same w (f .word) && eqb n (f .arguments)) k (number-from (suc k) w n fs)
+
+-- the number of the command with this word and so many arguments
+unfoldable pub number-of : List ℕ → ℕ → ℕ
+number-of w n = number-from 1 w n forms
+
+-- the form of a number, counted from k; no line has the number of none, which counts as the last
+unfoldable pub form-from : ℕ → ℕ → List Form → Form
+form-from k number [] = last-form
+form-from k number (f ∷ fs) = cond (eqb number k) f (form-from (suc k) number fs)
+
+unfoldable pub form-of : ℕ → Form
+form-of number = form-from 1 number forms
+
+-- the command of a number with its arguments
+unfoldable pub command-of : (number a b c set : ℕ) → Command
+command-of number = form-of number .command
+
+-- whether the command of a number takes a set of nodes
+unfoldable pub takes-set : ℕ → Bool
+takes-set number = form-of number .takes-set

@@ -1,10 +1,10 @@
 pub mod Pass
 pub mod Entries
-pub mod Soundness
+pub mod NamespaceSound
 pub mod Raw
-pub mod Laws
-pub mod Keeps
+pub mod EntryLaws
+pub mod NamespaceKept
 pub mod Storage
 pub mod Search
-pub mod Meaning
-pub mod Examples
+pub mod NamespaceMeaning
+pub mod EntryExamples

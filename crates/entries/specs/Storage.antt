@@ -13,8 +13,8 @@ use lib.Seq.{drop-cons}
 use lib.Dec.{eqb}
 use borrow.Author.Tests.{lt-ltb, le-leb, ltb-true, leb-true, eqb-true, not-true}
 use Rattle.entries.specs.Entries.{Entry, half-word, host, holds-pid, word-of, entry-of, words, entries}
-use Rattle.entries.specs.Laws.{holds-pid-snoc}
-use Rattle.entries.specs.Soundness.{Ascending, Distinct, Hosted, Sound, Stored, is-ascending, is-distinct, is-hosted, sound-entries, all-zero, sound-words}
+use Rattle.entries.specs.EntryLaws.{holds-pid-snoc}
+use Rattle.entries.specs.NamespaceSound.{Ascending, Distinct, Hosted, Sound, Stored, is-ascending, is-distinct, is-hosted, sound-entries, all-zero, sound-words}
 
 -- ---- one word
 

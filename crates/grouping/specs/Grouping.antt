@@ -7,26 +7,30 @@ use native.Mathlib.Omega.{arith}
 use lib.ListN.{length, getD}
 use borrow.Author.Tests.{eq-eqb, ne-eqb, eqb-true}
 use Rattle.nodes.specs.Sets.{has, empty, union, inter, diff}
-use Rattle.nodes.specs.Laws.{has-diff, subset-diff}
+use Rattle.nodes.specs.SetLaws.{has-diff, subset-diff}
 use Rattle.semantics.specs.Sizes.{group-limit, names-per-group, members-at}
 use Rattle.semantics.specs.State.{Group, State, with-groups, with-links, with-free, find, put, drop-group, all-members}
-use Rattle.semantics.specs.Commands.{answer-of, Command, within, new-s-group, add-nodes, remove-nodes, delete-s-group, held}
+use Rattle.commands.specs.declared.Command.{Command}
+use Rattle.commands.specs.declared.Command.the-variants.{Within, RemoveNodes, DeleteSGroup}
+use Rattle.commands.specs.declared.GroupCommand.the-variants.{NewSGroup, AddNodes}
+use Rattle.answers.specs.Answers.{answer-of}
+use Rattle.semantics.specs.Ranges.{held}
 use Rattle.semantics.specs.Steps.{interconnect, leave-free, become-free, Result, reply, error, for-member, left-in, apply}
 use Rattle.semantics.specs.Test.{sound}
 use Rattle.semantics.specs.Truth.{or-cases, unless}
 use Rattle.semantics.specs.Groups.{Found, all-found, all-put}
 use Rattle.semantics.specs.Changed.{place}
-use Rattle.semantics.specs.Laid.{Laid, size-is, count-is}
-use Rattle.semantics.specs.declared.Value.the-variants.{True, Error, Grouped}
-use Rattle.semantics.specs.declared.Reason.{Reason}
-use Rattle.semantics.specs.declared.Reason.the-variants.{Done}
-use Rattle.judge.specs.Judge.{is-done, group-reason, set-reason, creation-reason}
-use Rattle.judge.specs.Passed.{done-is, creation-done}
+use Rattle.semantics.specs.WordsOfState.{Laid, size-is, count-is}
+use Rattle.answers.specs.declared.Value.the-variants.{True, Error, Grouped}
+use Rattle.answers.specs.declared.Reason.{Reason}
+use Rattle.answers.specs.declared.Reason.the-variants.{Done}
+use Rattle.inputs.specs.Judge.{is-done, group-reason, set-reason, creation-reason}
+use Rattle.inputs.specs.Passed.{done-is, creation-done}
 use Rattle.place.specs.Seats.{Seat, Room, Open, Shut, seat-group}
 use Rattle.place.specs.Sound.{here, regular, base, groups-few, seat-below, members-here}
-use Rattle.steps.specs.Judged.{Goes, Judging, refused, passed, allowed, step-new, step-add, step-remove, step-delete}
-use Rattle.steps.specs.Calls.{Says, says, says-kept}
-use Rattle.wires.specs.Loosed.{Apart, apart-fewer}
+use Rattle.returns.specs.Judged.{Goes, Judging, refused, passed, allowed, step-new, step-add, step-remove, step-delete}
+use Rattle.returns.specs.Shown.{Says, says, says-kept}
+use Rattle.connecting.specs.Loosed.{Apart, apart-fewer}
 use Rattle.groups.specs.Grouped.{fresh, manned}
 
 -- ---- for a member, or a refusal
@@ -50,10 +54,10 @@ removed s set st g = reply True Done (become-free (inter (g .members) set) (left
 abbrev pub gone : ℕ → State → Group → Result
 gone s st g = reply True Done (become-free (g .members) (drop-group s (st .groups)) st)
 
-pub step-removed : (room i : ℕ) (st : State) (s set : ℕ) → For-results room i s (remove-nodes s set) st (set-reason (st .size) i s set) (removed s set st)
+pub step-removed : (room i : ℕ) (st : State) (s set : ℕ) → For-results room i s (RemoveNodes s set) st (set-reason (st .size) i s set) (removed s set st)
 step-removed room i st s set = record { judging = step-remove room i st s set }
 
-pub step-gone : (room i : ℕ) (st : State) (s : ℕ) → For-results room i s (delete-s-group s) st (group-reason (st .size) i s) (gone s st)
+pub step-gone : (room i : ℕ) (st : State) (s : ℕ) → For-results room i s (DeleteSGroup s) st (group-reason (st .size) i s) (gone s st)
 step-gone room i st s = record { judging = step-delete room i st s }
 
 module _ (t : List ℕ) (ok : sound names-per-group t ≡ true) {s at : ℕ} (r : Seat s at (here t .groups)) where
@@ -77,12 +81,12 @@ module _ (t : List ℕ) (ok : sound names-per-group t ≡ true) (i s : ℕ) wher
       seen : q ≡ creation-reason (here t .size) (length (here t .groups)) i s set (held (find s (here t .groups)))
       seen = e ∙ (λ j. creation-reason (size-is (base t ok) j) (count-is (base t ok) j) i s set (sym f j))
 
-      pub new-refused : is-done q ≡ false → Says 0 i (within (new-s-group s set)) t (answer-of Error q) t
+      pub new-refused : is-done q ≡ false → Says 0 i (Within (NewSGroup s set)) t (answer-of Error q) t
       new-refused h = says-kept t ok (refused (step-new 0 i (here t) s set) seen h)
 
       pub new-made : q ≡ Done → {at : ℕ} (r : Room s at (here t .groups)) (u : List ℕ)
           → Laid names-per-group (joined set set (r .before ++ fresh s set ∷ r .after) (here t)) u
-          → Says 0 i (within (new-s-group s set)) t (answer-of (Grouped s set) Done) u
+          → Says 0 i (Within (NewSGroup s set)) t (answer-of (Grouped s set) Done) u
       unfolding apply
       new-made h r u l =
           says t ok (passed (step-new 0 i (here t) s set) seen h) u
@@ -90,7 +94,7 @@ module _ (t : List ℕ) (ok : sound names-per-group t ≡ true) (i s : ℕ) wher
 
     -- where the name is taken there is always a reason
     pub new-taken : {q : Reason} → q ≡ creation-reason (getD t 0 0) (getD t 2 0) i s set true → {at : ℕ} → Seat s at (here t .groups)
-        → Says 0 i (within (new-s-group s set)) t (answer-of Error q) t
+        → Says 0 i (Within (NewSGroup s set)) t (answer-of Error q) t
     new-taken {q} e r = new-refused true e (ap held (r .finds)) (unless (is-done q) λ h. true≢false (creation-done (getD t 0 0) (getD t 2 0) i s set true (sym e ∙ done-is q h) .2))
 
     -- ---- add_nodes
@@ -98,7 +102,7 @@ module _ (t : List ℕ) (ok : sound names-per-group t ≡ true) (i s : ℕ) wher
     module _ {q : Reason} (e : q ≡ set-reason (here t .size) i s set) (h : q ≡ Done) {at : ℕ} (o : Open i s at (here t .groups)) where
       pub add-joined : (m : ℕ) → m ≡ union (getD t (members-at + at) 0) set → (u : List ℕ)
           → Laid names-per-group (joined m set (o .seat .before ++ manned m (o .seat .group) ∷ o .seat .after) (here t)) u
-          → Says 0 i (within (add-nodes s set)) t (answer-of (Grouped s set) Done) u
+          → Says 0 i (Within (AddNodes s set)) t (answer-of (Grouped s set) Done) u
       unfolding apply
       add-joined m em u l =
           let r = o .seat in
@@ -115,7 +119,7 @@ module _ (t : List ℕ) (ok : sound names-per-group t ≡ true) (i s : ℕ) wher
         left-is = el ∙ ap (λ (x : ℕ). diff x set) (members-seated t ok (o .seat))
 
         goes : {gs : List Group} → left-in s (diff (o .seat .group .members) set) (o .seat .group .names) (here t .groups) ≡ gs
-            → Laid names-per-group (become-free (inter (o .seat .group .members) set) gs (here t)) u → Says 0 i (remove-nodes s set) t (answer-of True Done) u
+            → Laid names-per-group (become-free (inter (o .seat .group .members) set) gs (here t)) u → Says 0 i (RemoveNodes s set) t (answer-of True Done) u
         goes e′ l =
             says t ok (let-in (step-removed 0 i (here t) s set) e h o) u
             (subst (λ (gs : List Group). Laid names-per-group (become-free (inter (o .seat .group .members) set) gs (here t)) u) (sym e′) l)
@@ -123,7 +127,7 @@ module _ (t : List ℕ) (ok : sound names-per-group t ≡ true) (i s : ℕ) wher
         -- some are left
         pub remove-left : (left ≡ 0 → ⊥) → (gone : ℕ) → gone ≡ inter (getD t (members-at + at) 0) set
             → Laid names-per-group (become-free gone (o .seat .before ++ manned left (o .seat .group) ∷ o .seat .after) (here t)) u
-            → Says 0 i (remove-nodes s set) t (answer-of True Done) u
+            → Says 0 i (RemoveNodes s set) t (answer-of True Done) u
         remove-left n gone eg l =
             goes (ap (λ (x : Bool). cond x (drop-group s (here t .groups)) (put s (diff (o .seat .group .members) set) (o .seat .group .names) (here t .groups))) (ne-eqb _ 0 (λ z. n (left-is ∙ z)))
             ∙ o .seat .putting _ (o .seat .group .names))
@@ -133,7 +137,7 @@ module _ (t : List ℕ) (ok : sound names-per-group t ≡ true) (i s : ℕ) wher
 
         -- none is left: all are gone
         pub remove-all : left ≡ 0 → Laid names-per-group (become-free (getD t (members-at + at) 0) (o .seat .before ++ o .seat .after) (here t)) u
-            → Says 0 i (remove-nodes s set) t (answer-of True Done) u
+            → Says 0 i (RemoveNodes s set) t (answer-of True Done) u
         remove-all z l =
             let none : empty (diff (o .seat .group .members) set) ≡ true = eq-eqb _ 0 (sym left-is ∙ z) in
             let every : inter (o .seat .group .members) set ≡ o .seat .group .members = eqb-true _ _ (subset-diff (o .seat .group .members) set ∙ none) in
@@ -144,7 +148,7 @@ module _ (t : List ℕ) (ok : sound names-per-group t ≡ true) (i s : ℕ) wher
 
   module _ {q : Reason} (e : q ≡ group-reason (here t .size) i s) (h : q ≡ Done) {at : ℕ} (o : Open i s at (here t .groups)) where
     pub delete-done : (u : List ℕ) → Laid names-per-group (become-free (getD t (members-at + at) 0) (o .seat .before ++ o .seat .after) (here t)) u
-        → Says 0 i (delete-s-group s) t (answer-of True Done) u
+        → Says 0 i (DeleteSGroup s) t (answer-of True Done) u
     delete-done u l =
         says t ok (let-in (step-gone 0 i (here t) s) e h o) u
         (subst (λ (x : State). Laid names-per-group x u)

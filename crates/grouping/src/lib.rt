@@ -1,10 +1,16 @@
 // The steps of the commands that make, change and delete s_groups, on a sound table.
+use answers::Answer;
+use answers::Reason;
+use answers::Value;
+use connecting::become_free;
+use connecting::interconnect;
+use connecting::leave_free;
 use groups::delete_group;
 use groups::insert_group;
 use groups::set_members;
-use judge::creation_reason;
-use judge::group_reason;
-use judge::set_reason;
+use inputs::creation_reason;
+use inputs::group_reason;
+use inputs::set_reason;
 use layout::COUNT_AT;
 use layout::MEMBERS_AT;
 use layout::SIZE_AT;
@@ -12,17 +18,12 @@ use place::Access;
 use place::Place;
 use place::place_for;
 use place::place_of;
-use semantics::Answer;
-use semantics::Reason;
-use semantics::Value;
-use wires::become_free;
-use wires::interconnect;
-use wires::leave_free;
 ghost use mathlib.Core.Path.{_≡_};
 ghost use mathlib.Core.Bool.{true};
 ghost use lib.ListN.{length};
 ghost use Rattle.semantics.specs.Sizes.{names-per-group, table-words};
-ghost use Rattle.semantics.specs.Commands.{within, new-s-group, add-nodes, remove-nodes, delete-s-group};
+ghost use Rattle.commands.specs.declared.Command.the-variants.{Within, RemoveNodes, DeleteSGroup};
+ghost use Rattle.commands.specs.declared.GroupCommand.the-variants.{NewSGroup, AddNodes};
 ghost use Rattle.semantics.specs.Test.{sound};
 ghost use Rattle.semantics.specs.Call.{call};
 
@@ -30,8 +31,8 @@ ghost use Rattle.semantics.specs.Call.{call};
 pub fn new_s_group(t: &mut [u64], caller: u32, s: u32, set: u64) -> Answer
     requires { ⌜ length (now t) ≡ table-words names-per-group ⌝ }
     requires { ⌜ sound names-per-group (now t) ≡ true ⌝ }
-    ensures { λ r. ⌜ r ≡ call 0 caller (within (new-s-group s set)) (now (t .entry)) .answer ⌝ }
-    ensures { λ _. ⌜ now (t .exit) ≡ call 0 caller (within (new-s-group s set)) (now (t .entry)) .table ⌝ }
+    ensures { λ r. ⌜ r ≡ call 0 caller (Within (NewSGroup s set)) (now (t .entry)) .answer ⌝ }
+    ensures { λ _. ⌜ now (t .exit) ≡ call 0 caller (Within (NewSGroup s set)) (now (t .entry)) .table ⌝ }
 {
     let size = t[SIZE_AT] as u32;
     let count = t[COUNT_AT] as usize;
@@ -66,8 +67,8 @@ pub fn new_s_group(t: &mut [u64], caller: u32, s: u32, set: u64) -> Answer
 pub fn add_nodes(t: &mut [u64], caller: u32, s: u32, set: u64) -> Answer
     requires { ⌜ length (now t) ≡ table-words names-per-group ⌝ }
     requires { ⌜ sound names-per-group (now t) ≡ true ⌝ }
-    ensures { λ r. ⌜ r ≡ call 0 caller (within (add-nodes s set)) (now (t .entry)) .answer ⌝ }
-    ensures { λ _. ⌜ now (t .exit) ≡ call 0 caller (within (add-nodes s set)) (now (t .entry)) .table ⌝ }
+    ensures { λ r. ⌜ r ≡ call 0 caller (Within (AddNodes s set)) (now (t .entry)) .answer ⌝ }
+    ensures { λ _. ⌜ now (t .exit) ≡ call 0 caller (Within (AddNodes s set)) (now (t .entry)) .table ⌝ }
 {
     let reason = set_reason(t[SIZE_AT] as u32, caller, s, set);
     let Reason::Done = reason else {
@@ -98,8 +99,8 @@ pub fn add_nodes(t: &mut [u64], caller: u32, s: u32, set: u64) -> Answer
 pub fn remove_nodes(t: &mut [u64], caller: u32, s: u32, set: u64) -> Answer
     requires { ⌜ length (now t) ≡ table-words names-per-group ⌝ }
     requires { ⌜ sound names-per-group (now t) ≡ true ⌝ }
-    ensures { λ r. ⌜ r ≡ call 0 caller (remove-nodes s set) (now (t .entry)) .answer ⌝ }
-    ensures { λ _. ⌜ now (t .exit) ≡ call 0 caller (remove-nodes s set) (now (t .entry)) .table ⌝ }
+    ensures { λ r. ⌜ r ≡ call 0 caller (RemoveNodes s set) (now (t .entry)) .answer ⌝ }
+    ensures { λ _. ⌜ now (t .exit) ≡ call 0 caller (RemoveNodes s set) (now (t .entry)) .table ⌝ }
 {
     let reason = set_reason(t[SIZE_AT] as u32, caller, s, set);
     let Reason::Done = reason else {
@@ -138,8 +139,8 @@ pub fn remove_nodes(t: &mut [u64], caller: u32, s: u32, set: u64) -> Answer
 pub fn delete_s_group(t: &mut [u64], caller: u32, s: u32) -> Answer
     requires { ⌜ length (now t) ≡ table-words names-per-group ⌝ }
     requires { ⌜ sound names-per-group (now t) ≡ true ⌝ }
-    ensures { λ r. ⌜ r ≡ call 0 caller (delete-s-group s) (now (t .entry)) .answer ⌝ }
-    ensures { λ _. ⌜ now (t .exit) ≡ call 0 caller (delete-s-group s) (now (t .entry)) .table ⌝ }
+    ensures { λ r. ⌜ r ≡ call 0 caller (DeleteSGroup s) (now (t .entry)) .answer ⌝ }
+    ensures { λ _. ⌜ now (t .exit) ≡ call 0 caller (DeleteSGroup s) (now (t .entry)) .table ⌝ }
 {
     let reason = group_reason(t[SIZE_AT] as u32, caller, s);
     let Reason::Done = reason else {

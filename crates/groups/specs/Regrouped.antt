@@ -12,7 +12,7 @@ use Rattle.semantics.specs.State.{Group, State, with-groups}
 use Rattle.semantics.specs.Table.{pad, contents, bodies, cat, sections}
 use Rattle.semantics.specs.Bodies.{bodies-append}
 use Rattle.semantics.specs.Sections.{Run, store}
-use Rattle.semantics.specs.Laid.{sizes, Sized, Laid, sizes-of, count-is}
+use Rattle.semantics.specs.WordsOfState.{sizes, Sized, Laid, sizes-of, count-is}
 use Rattle.groups.specs.Shifted.{stored-pad}
 use Rattle.groups.specs.Grouped.{fresh, manned}
 

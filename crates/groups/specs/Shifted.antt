@@ -7,9 +7,9 @@ use native.Mathlib.Omega.{arith}
 use lib.ListN.{length, getD, take, drop, set, replicate, length-append, length-replicate, replicate-append-replicate}
 use lib.Seq.{set-at}
 use Rattle.moves.specs.Moves.{put-first, drop-first}
-use Rattle.moves.specs.Turns.{put-over, drop-over}
+use Rattle.moves.specs.Shifting.{put-over, drop-over}
 use Rattle.semantics.specs.Table.{pad}
-use Rattle.semantics.specs.Parts.{Cut}
+use Rattle.semantics.specs.ThreeParts.{Cut}
 use Rattle.semantics.specs.Sections.{start, Run, lent-in}
 
 module _ {ns : List ℕ} {xs : List (List ℕ)} {t : List ℕ} (u : Run ns xs t) (k : ℕ) (h : k < length ns) where

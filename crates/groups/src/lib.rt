@@ -11,7 +11,7 @@ ghost use lib.ListN.{length};
 ghost use Rattle.semantics.specs.Sizes.{group-limit, names-per-group, table-words};
 ghost use Rattle.semantics.specs.Soundness.{count-of};
 ghost use Rattle.semantics.specs.State.{Group, State, with-groups};
-ghost use Rattle.semantics.specs.Laid.{Laid};
+ghost use Rattle.semantics.specs.WordsOfState.{Laid};
 ghost use Rattle.groups.specs.Grouped.{fresh, manned};
 use bodies::drop_body;
 use bodies::put_body;

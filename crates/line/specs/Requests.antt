@@ -5,13 +5,13 @@ use Prim.Native.Nat.{ℕ, _-_}
 use lib.Dec.{eqb, leb}
 use lib.ListN.{length}
 use Rattle.semantics.specs.Test.{same}
-use Rattle.fields.specs.Text.{bytes, fields, field}
-use Rattle.numeral.specs.Numbers.{numeral, narrow}
-use Rattle.words.specs.Commands.{number-of, takes-set}
-use Rattle.numeral.specs.declared.Number.{Number}
-use Rattle.numeral.specs.declared.Number.the-variants as Number
-use Rattle.numeral.specs.declared.Half.{Half}
-use Rattle.numeral.specs.declared.Half.the-variants as Half
+use Rattle.text.specs.Text.{bytes, fields, field}
+use Rattle.text.specs.Numbers.{numeral, narrow}
+use Rattle.forms.specs.Forms.{number-of, takes-set}
+use Rattle.text.specs.declared.Number.{Number}
+use Rattle.text.specs.declared.Number.the-variants as Number
+use Rattle.text.specs.declared.Half.{Half}
+use Rattle.text.specs.declared.Half.the-variants as Half
 use Rattle.line.specs.declared.Request.{Request}
 use Rattle.line.specs.declared.Request.the-variants.{Open, Command, Unfit}
 

@@ -1,10 +1,10 @@
 // A line of a script becomes a request.
 ghost use mathlib.Core.Path.{_≡_};
 ghost use lib.ListN.{length};
-ghost use Rattle.fields.specs.Text.{fields};
+ghost use Rattle.text.specs.Text.{fields};
 ghost use Rattle.line.specs.Requests.{number-in, open-with, open-line, command-with, command-by, numbered-line, command-line, request-of};
-use numeral::Half;
-use numeral::Number;
+use text::Half;
+use text::Number;
 
 // What a script line asks for.
 pub enum Request {
@@ -33,7 +33,7 @@ fn number_in(s: &[u8], count: usize, i: usize) -> Number
     if count <= i {
         return Number::Is(0);
     }
-    numeral::numeral(fields::field(s, i))
+    text::numeral(text::field(s, i))
 }
 
 // Opening, where both are numbers of their widths.
@@ -57,8 +57,8 @@ fn open_line(s: &[u8], count: usize) -> Request
     if count != 3 {
         return Request::Unfit;
     }
-    let n = numeral::narrow(numeral::numeral(fields::field(s, 1)));
-    let hidden = numeral::numeral(fields::field(s, 2));
+    let n = text::narrow(text::numeral(text::field(s, 1)));
+    let hidden = text::numeral(text::field(s, 2));
     open_with(n, hidden)
 }
 
@@ -102,13 +102,13 @@ fn command_by(
 ) -> Request
     ensures { λ r. ⌜ r ≡ command-by «takes_set» number caller a b c ⌝ }
 {
-    let i = numeral::narrow(caller);
-    let x = numeral::narrow(a);
-    let z = numeral::narrow(c);
+    let i = text::narrow(caller);
+    let x = text::narrow(a);
+    let z = text::narrow(c);
     if takes_set {
         return command_with(number, i, x, Half::Is(0), z, b);
     }
-    let y = numeral::narrow(b);
+    let y = text::narrow(b);
     command_with(number, i, x, y, z, Number::Is(0))
 }
 
@@ -124,7 +124,7 @@ fn numbered_line(number: u32, s: &[u8], count: usize) -> Request
     let a = number_in(s, count, 2);
     let b = number_in(s, count, 3);
     let c = number_in(s, count, 4);
-    command_by(words::takes_set(number), number, caller, a, b, c)
+    command_by(forms::takes_set(number), number, caller, a, b, c)
 }
 
 // The line of a caller, a command and its arguments.
@@ -135,7 +135,7 @@ fn command_line(s: &[u8], count: usize) -> Request
     if count < 2 {
         return Request::Unfit;
     }
-    let number = words::number(fields::field(s, 1), count - 2);
+    let number = forms::number(text::field(s, 1), count - 2);
     numbered_line(number, s, count)
 }
 
@@ -146,8 +146,8 @@ pub fn request_of(s: &[u8]) -> Request
     if LINE_LIMIT < s.len() {
         return Request::Unfit;
     }
-    let count = fields::count(s);
-    if check::same(fields::field(s, 0), b"open") {
+    let count = text::count(s);
+    if check::same(text::field(s, 0), b"open") {
         return open_line(s, count);
     }
     command_line(s, count)

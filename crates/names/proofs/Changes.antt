@@ -17,7 +17,7 @@ use Rattle.entries.specs.declared.Found.{Found}
 use Rattle.entries.specs.declared.Found.the-variants as found-as
 use Rattle.entries.specs.declared.Held.{Held}
 use Rattle.entries.specs.declared.Held.the-variants as held-as
-use Rattle.semantics.specs.Commands.{held}
+use Rattle.semantics.specs.Ranges.{held}
 use Rattle.names.specs.NamesHere.{changed}
 
 -- ---- a change

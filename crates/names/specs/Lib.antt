@@ -1,3 +1,4 @@
-pub mod Names
+pub mod NamesAt
 pub mod Renamed
 pub mod NamesHere
+pub mod Looked

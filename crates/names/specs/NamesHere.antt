@@ -10,22 +10,22 @@ use lib.Seq.{set-at, set-getD}
 use borrow.Author.Tests.{le-leb, le-ltb, eq-eqb, ne-eqb}
 use Rattle.entries.specs.Entries.{Entry, insert, remove, renew, lookup, rank, holds-pid, words}
 use Rattle.entries.specs.Raw.{place, found, found-at, answer-at, pid-answer, yes-no, added, dropped, replaced, change-of}
-use Rattle.entries.specs.Laws.{length-insert, length-remove, length-renew, remove-absent}
-use Rattle.entries.specs.Meaning.{found-words, pid-answer-words, added-words, dropped-words, replaced-words}
+use Rattle.entries.specs.EntryLaws.{length-insert, length-remove, length-renew, remove-absent}
+use Rattle.entries.specs.NamespaceMeaning.{found-words, pid-answer-words, added-words, dropped-words, replaced-words}
 use Rattle.entries.specs.declared.Change.{Change}
 use Rattle.entries.specs.declared.Change.the-variants as change
 use Rattle.semantics.specs.Sizes.{group-names, names-per-group, contents-at, bodies-at}
 use Rattle.semantics.specs.State.{Group, State, with-groups}
-use Rattle.semantics.specs.Commands.{held}
+use Rattle.semantics.specs.Ranges.{held}
 use Rattle.semantics.specs.Steps.{hold, apply, looked, nothing-found, ask}
 use Rattle.semantics.specs.Regular.{Regular-group, Regular}
 use Rattle.semantics.specs.Places.{no-group, every-iff}
-use Rattle.semantics.specs.Names.{not-held}
-use Rattle.semantics.specs.Laid.{Laid}
-use Rattle.semantics.specs.declared.Reason.{Reason}
-use Rattle.semantics.specs.declared.Reason.the-variants.{NotRegistered}
+use Rattle.semantics.specs.NamesKept.{not-held}
+use Rattle.semantics.specs.WordsOfState.{Laid}
+use Rattle.answers.specs.declared.Reason.{Reason}
+use Rattle.answers.specs.declared.Reason.the-variants.{NotRegistered}
 use Rattle.place.specs.Seats.{Seat, Open, Shut, seat-group}
-use Rattle.names.specs.Names.{Standing, counted, names-at, renamed, with-names}
+use Rattle.names.specs.NamesAt.{Standing, counted, names-at, renamed, with-names}
 use Rattle.names.specs.Renamed.{contents-here, count-here, own-words, renamed-as-many, renamed-counted}
 
 -- what a change at a name answers of a lookup

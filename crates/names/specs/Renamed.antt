@@ -13,12 +13,12 @@ use Rattle.semantics.specs.Sizes.{group-limit, group-names, contents-at, bodies
 use Rattle.semantics.specs.State.{Group, State}
 use Rattle.semantics.specs.Table.{pad, contents, bodies, cat, sections}
 use Rattle.semantics.specs.Padding.{getD-pad}
-use Rattle.semantics.specs.Parts.{Cut}
+use Rattle.semantics.specs.ThreeParts.{Cut}
 use Rattle.semantics.specs.Places.{no-group, group-at, contents-at-place, members-at-place, contents-count}
 use Rattle.semantics.specs.Bodies.{length-bodies, bodies-append}
 use Rattle.semantics.specs.Sections.{Run, read-in, lent-in, store}
-use Rattle.semantics.specs.Laid.{Sized, Laid, sizes, sizes-of, contents-word}
-use Rattle.names.specs.Names.{names-at, renamed, with-names}
+use Rattle.semantics.specs.WordsOfState.{Sized, Laid, sizes, sizes-of, contents-word}
+use Rattle.names.specs.NamesAt.{names-at, renamed, with-names}
 
 -- ---- lists
 

@@ -15,10 +15,18 @@ ghost use Rattle.entries.specs.Entries.{insert, remove, renew, lookup, rank, ho
 ghost use Rattle.entries.specs.Raw.{answer-at};
 ghost use Rattle.semantics.specs.Sizes.{group-limit, names-per-group, table-words};
 ghost use Rattle.semantics.specs.State.{State};
-ghost use Rattle.semantics.specs.Commands.{held};
-ghost use Rattle.semantics.specs.Laid.{Laid};
-ghost use Rattle.names.specs.Names.{Standing, counted, names-at, with-names};
-
+ghost use Rattle.semantics.specs.Ranges.{held};
+ghost use Rattle.semantics.specs.WordsOfState.{Laid};
+ghost use Rattle.names.specs.NamesAt.{Standing, counted, names-at, with-names};
+use answers::Reason;
+use place::Access;
+use place::place_for;
+ghost use Rattle.entries.specs.Entries.{lookup};
+ghost use Rattle.semantics.specs.Sizes.{names-per-group, table-words};
+ghost use Rattle.semantics.specs.Steps.{ask};
+ghost use Rattle.semantics.specs.Table.{state-of};
+ghost use Rattle.semantics.specs.Test.{sound};
+ghost use Rattle.names.specs.Looked.{looked-up};
 // How many names the s_group has.
 pub fn names_count(t: &[u64], at: usize) -> usize
     requires { ⌜ length (now t) ≡ table-words names-per-group ⌝ }
@@ -103,5 +111,29 @@ pub fn replace_name(t: &mut [u64], at: usize, n: u32, p: u32) -> bool
     match namespace::replace(&mut t[start..end], count, n, p) {
         Change::Done => true,
         _ => false,
+    }
+}
+
+// What a lookup finds: the pid, or why there is none.
+pub enum Lookup {
+    Found(u32),
+    Missing(Reason),
+}
+
+// What node `node` finds under the name in the s_group. Zero as the s_group's name finds nothing.
+pub fn look(t: &[u64], node: u32, s: u32, n: u32) -> Lookup
+    requires { ⌜ length (now t) ≡ table-words names-per-group ⌝ }
+    requires { ⌜ sound names-per-group (now t) ≡ true ⌝ }
+    ensures { λ r. ⌜ looked-up r ≡ ask node s n (state-of names-per-group (now (t .entry))) ⌝ }
+{
+    if s == 0 {
+        return Lookup::Missing(Reason::NotRegistered);
+    }
+    match place_for(t, node, s) {
+        Access::Member(at) => match find_name(t, at, n) {
+            Found::At(_, p) => Lookup::Found(p),
+            _ => Lookup::Missing(Reason::NotRegistered),
+        },
+        Access::Denied(r) => Lookup::Missing(r),
     }
 }

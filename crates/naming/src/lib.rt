@@ -1,7 +1,10 @@
 // The steps of the three commands that change names: register_name, re_register_name, unregister_name.
+use answers::Answer;
+use answers::Reason;
+use answers::Value;
 use entries::Found;
-use judge::name_reason;
-use judge::pid_reason;
+use inputs::name_reason;
+use inputs::pid_reason;
 use layout::NAMES_PER_GROUP;
 use layout::SIZE_AT;
 use names::add_name;
@@ -12,23 +15,21 @@ use names::pid_held;
 use names::replace_name;
 use place::Access;
 use place::place_for;
-use semantics::Answer;
-use semantics::Reason;
-use semantics::Value;
 ghost use mathlib.Core.Path.{_≡_};
 ghost use mathlib.Core.Bool.{true};
 ghost use Prim.Native.Nat.{ℕ, _<_};
 ghost use lib.ListN.{length};
 ghost use Rattle.semantics.specs.Sizes.{group-limit, names-per-group, table-words};
 ghost use Rattle.semantics.specs.State.{State};
-ghost use Rattle.semantics.specs.Commands.{within, register-name, re-register-name, unregister-name};
+ghost use Rattle.commands.specs.declared.Command.the-variants.{Within};
+ghost use Rattle.commands.specs.declared.GroupCommand.the-variants.{RegisterName, ReRegisterName, UnregisterName};
 ghost use Rattle.semantics.specs.Test.{sound};
 ghost use Rattle.semantics.specs.Call.{call};
 ghost use Rattle.semantics.specs.Regular.{Regular};
-ghost use Rattle.semantics.specs.Laid.{Laid};
-ghost use Rattle.steps.specs.Judged.{register-in, re-register-in, unregister-in};
+ghost use Rattle.semantics.specs.WordsOfState.{Laid};
+ghost use Rattle.returns.specs.Judged.{register-in, re-register-in, unregister-in};
 ghost use Rattle.place.specs.Seats.{Seat};
-ghost use Rattle.steps.specs.Settled.{Settles};
+ghost use Rattle.returns.specs.Settled.{Settles};
 
 // The name and the pid in the s_group at `at`, neither of which may be held.
 fn register_in(t: &mut [u64], at: usize, n: u32, p: u32) -> Answer
@@ -114,8 +115,8 @@ fn unregister_in(t: &mut [u64], at: usize, n: u32) -> Answer
 pub fn register_name(t: &mut [u64], caller: u32, s: u32, n: u32, p: u32) -> Answer
     requires { ⌜ length (now t) ≡ table-words names-per-group ⌝ }
     requires { ⌜ sound names-per-group (now t) ≡ true ⌝ }
-    ensures { λ r. ⌜ r ≡ call 0 caller (within (register-name s n p)) (now (t .entry)) .answer ⌝ }
-    ensures { λ _. ⌜ now (t .exit) ≡ call 0 caller (within (register-name s n p)) (now (t .entry)) .table ⌝ }
+    ensures { λ r. ⌜ r ≡ call 0 caller (Within (RegisterName s n p)) (now (t .entry)) .answer ⌝ }
+    ensures { λ _. ⌜ now (t .exit) ≡ call 0 caller (Within (RegisterName s n p)) (now (t .entry)) .table ⌝ }
 {
     let size = t[SIZE_AT] as u32;
     let r = pid_reason(size, caller, s, n, p);
@@ -138,8 +139,8 @@ pub fn register_name(t: &mut [u64], caller: u32, s: u32, n: u32, p: u32) -> Answ
 pub fn re_register_name(t: &mut [u64], caller: u32, s: u32, n: u32, p: u32) -> Answer
     requires { ⌜ length (now t) ≡ table-words names-per-group ⌝ }
     requires { ⌜ sound names-per-group (now t) ≡ true ⌝ }
-    ensures { λ r. ⌜ r ≡ call 0 caller (within (re-register-name s n p)) (now (t .entry)) .answer ⌝ }
-    ensures { λ _. ⌜ now (t .exit) ≡ call 0 caller (within (re-register-name s n p)) (now (t .entry)) .table ⌝ }
+    ensures { λ r. ⌜ r ≡ call 0 caller (Within (ReRegisterName s n p)) (now (t .entry)) .answer ⌝ }
+    ensures { λ _. ⌜ now (t .exit) ≡ call 0 caller (Within (ReRegisterName s n p)) (now (t .entry)) .table ⌝ }
 {
     let size = t[SIZE_AT] as u32;
     let r = pid_reason(size, caller, s, n, p);
@@ -162,8 +163,8 @@ pub fn re_register_name(t: &mut [u64], caller: u32, s: u32, n: u32, p: u32) -> A
 pub fn unregister_name(t: &mut [u64], caller: u32, s: u32, n: u32) -> Answer
     requires { ⌜ length (now t) ≡ table-words names-per-group ⌝ }
     requires { ⌜ sound names-per-group (now t) ≡ true ⌝ }
-    ensures { λ r. ⌜ r ≡ call 0 caller (within (unregister-name s n)) (now (t .entry)) .answer ⌝ }
-    ensures { λ _. ⌜ now (t .exit) ≡ call 0 caller (within (unregister-name s n)) (now (t .entry)) .table ⌝ }
+    ensures { λ r. ⌜ r ≡ call 0 caller (Within (UnregisterName s n)) (now (t .entry)) .answer ⌝ }
+    ensures { λ _. ⌜ now (t .exit) ≡ call 0 caller (Within (UnregisterName s n)) (now (t .entry)) .table ⌝ }
 {
     let size = t[SIZE_AT] as u32;
     let r = name_reason(size, caller, s, n);

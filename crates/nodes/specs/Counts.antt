@@ -10,8 +10,8 @@ use lib.Count.{ones, onesIn, ones-step, ones-cat, ones-ones, ones-le}
 use borrow.Author.Tests.{eqb-true, lt-ltb}
 use Rattle.nodes.specs.Sets.{node-limit, bit, has, union, inter, diff, single, roster, with-node, without-node, subset, count, lowest, rest}
 use Rattle.nodes.specs.Digits.{bit-zero, bit-suc, bit-union, bit-inter, bit-diff, lt-pow}
-use Rattle.nodes.specs.Laws.{union-lt, inter-le-l, diff-le, inter-comm, inter-single-in, inter-single-out}
-use Rattle.nodes.specs.Lowest.{lowest-has}
+use Rattle.nodes.specs.SetLaws.{union-lt, inter-le-l, diff-le, inter-comm, inter-single-in, inter-single-out}
+use Rattle.nodes.specs.LowestNode.{lowest-has}
 
 -- the members below n, counted one by one
 unfoldable pub tally : ℕ → ℕ → ℕ

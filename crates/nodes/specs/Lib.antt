@@ -1,11 +1,11 @@
 -- Sets of nodes in a word: `Sets` has the definitions, `Examples` worked examples, the others laws. Assumes nothing.
 pub mod Sets
-pub mod Examples
+pub mod SetExamples
 pub mod Bools
 pub mod Digits
-pub mod Laws
+pub mod SetLaws
 pub mod TruthTable
-pub mod Lowest
+pub mod LowestNode
 pub mod Counts
 pub mod Walk
 pub mod Words

@@ -6,7 +6,7 @@ use Prim.Native.Nat.{ℕ, zero, suc}
 use lib.Dec.{T}
 use lib.ListN.{length, getD, List·getD-map, length-map}
 use Rattle.nodes.specs.Sets.{has, union, inter, diff}
-use Rattle.nodes.specs.Laws.{has-none, has-union, has-inter, has-diff, has-ext}
+use Rattle.nodes.specs.SetLaws.{has-none, has-union, has-inter, has-diff, has-ext}
 
 -- a set made of the sets of a list, which stand by their places
 pub data Term : Type 0 where

@@ -10,8 +10,8 @@ use native.Mathlib.Numerals.{add-one}
 use native.Mathlib.Omega.{arith}
 use borrow.Author.Tests.{eq-eqb, ne-eqb}
 use Rattle.nodes.specs.Sets.{node-limit, has, lowest, rest, without-node, word-at, upto, walk, gather, unions-at}
-use Rattle.nodes.specs.Laws.{has-none, has-union, has-without-node}
-use Rattle.nodes.specs.Lowest.{lowest-lt, lowest-has, lowest-below}
+use Rattle.nodes.specs.SetLaws.{has-none, has-union, has-without-node}
+use Rattle.nodes.specs.LowestNode.{lowest-lt, lowest-has, lowest-below}
 
 module _ {A : Type 0} (f : A → ℕ → A) where
   -- ---- node by node

@@ -10,7 +10,7 @@ use lib.Pow.{pow-lt, pow-pos, pow-mono, split}
 use borrow.Author.Tests.{eqb-true, ne-eqb, lt-ltb, le-leb, lt-leb}
 use Rattle.nodes.specs.Sets.{node-limit, inter, diff, single, roster, beyond}
 use Rattle.nodes.specs.Bools.{by-lt}
-use Rattle.nodes.specs.Laws.{inter-comm, inter-diff, subset-roster}
+use Rattle.nodes.specs.SetLaws.{inter-comm, inter-diff, subset-roster}
 
 -- `1 << i`
 pub shl-one : (i : ℕ) → i < node-limit → (1 * 2 ^ i) % 2 ^ node-limit ≡ single i

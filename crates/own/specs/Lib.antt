@@ -1,2 +1,2 @@
-pub mod Own
+pub mod OwnWords
 pub mod OwnGroups

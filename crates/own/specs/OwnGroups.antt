@@ -13,7 +13,7 @@ use lib.Seq.{drop-cons}
 use borrow.Author.Tests.{ne-eqb}
 use Rattle.nodes.specs.Sets.{node-limit, has, single, union, union-all}
 use Rattle.nodes.specs.Bools.{by-test}
-use Rattle.nodes.specs.Laws.{union-none, union-all-take}
+use Rattle.nodes.specs.SetLaws.{union-none, union-all-take}
 use Rattle.entries.specs.Pass.{pass-write}
 use Rattle.semantics.specs.Sizes.{group-limit, group-names, names-per-group, contents-at, members-at, free-at}
 use Rattle.semantics.specs.State.{Group, State, free-of}
@@ -24,9 +24,9 @@ use Rattle.semantics.specs.Call.{listed-over}
 use Rattle.semantics.specs.Regular.{Every, Regular-group, Regular}
 use Rattle.semantics.specs.Places.{contents-name}
 use Rattle.semantics.specs.Sections.{read}
-use Rattle.semantics.specs.Laid.{Laid, length-of, count-is, free-word}
+use Rattle.semantics.specs.WordsOfState.{Laid, length-of, count-is, free-word}
 use Rattle.place.specs.Sound.{here, regular, base, groups-few}
-use Rattle.own.specs.Own.{if-with, shared-members, own-words, own-length}
+use Rattle.own.specs.OwnWords.{if-with, shared-members, own-words, own-length}
 
 -- ---- the union of the sets that have the node
 

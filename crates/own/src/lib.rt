@@ -1,5 +1,8 @@
 // The steps of own_nodes and own_s_groups.
-use judge::caller_reason;
+use answers::Answer;
+use answers::Reason;
+use answers::Value;
+use inputs::caller_reason;
 use layout::CONTENTS_AT;
 use layout::COUNT_AT;
 use layout::FREE_AT;
@@ -7,21 +10,18 @@ use layout::GROUP_NAMES;
 use layout::LINKS_AT;
 use layout::MEMBERS_AT;
 use layout::SIZE_AT;
-use semantics::Answer;
-use semantics::Reason;
-use semantics::Value;
 ghost use mathlib.Core.Path.{_≡_};
 ghost use mathlib.Core.Bool.{true};
 ghost use Prim.Native.Nat.{_<_, _≤_};
 ghost use lib.ListN.{length};
 ghost use Rattle.nodes.specs.Sets.{node-limit};
 ghost use Rattle.semantics.specs.Sizes.{group-limit, names-per-group, table-words};
-ghost use Rattle.semantics.specs.Commands.{own-nodes, own-s-groups};
+ghost use Rattle.commands.specs.declared.Command.the-variants.{OwnNodes, OwnSGroups};
 ghost use Rattle.semantics.specs.Steps.{own-set};
 ghost use Rattle.semantics.specs.Table.{state-of};
 ghost use Rattle.semantics.specs.Test.{sound};
 ghost use Rattle.semantics.specs.Call.{call, listed-over};
-ghost use Rattle.own.specs.Own.{shared-members, own-length, own-words};
+ghost use Rattle.own.specs.OwnWords.{shared-members, own-length, own-words};
 
 // The nodes of the first `count` sets that have the node.
 fn shared_members(members: &[u64], count: usize, node: u32) -> u64
@@ -63,7 +63,7 @@ fn own_set(t: &[u64], node: u32) -> u64
 pub fn own_nodes(t: &[u64], caller: u32) -> Answer
     requires { ⌜ length (now t) ≡ table-words names-per-group ⌝ }
     requires { ⌜ sound names-per-group (now t) ≡ true ⌝ }
-    ensures { λ r. ⌜ r ≡ call 0 caller own-nodes (now (t .entry)) .answer ⌝ }
+    ensures { λ r. ⌜ r ≡ call 0 caller OwnNodes (now (t .entry)) .answer ⌝ }
 {
     let size = t[SIZE_AT] as u32;
     let r = caller_reason(size, caller);
@@ -121,8 +121,8 @@ fn write_own(contents: &[u64], members: &[u64], count: usize, node: u32, out: &m
 pub fn own_s_groups(t: &[u64], caller: u32, out: &mut [u64]) -> Answer
     requires { ⌜ length (now t) ≡ table-words names-per-group ⌝ }
     requires { ⌜ sound names-per-group (now t) ≡ true ⌝ }
-    ensures { λ r. ⌜ r ≡ call (length (now (out .entry))) caller own-s-groups (now (t .entry)) .answer ⌝ }
-    ensures { λ _. ⌜ now (out .exit) ≡ listed-over (call (length (now (out .entry))) caller own-s-groups (now (t .entry)) .list) (now (out .entry)) ⌝ }
+    ensures { λ r. ⌜ r ≡ call (length (now (out .entry))) caller OwnSGroups (now (t .entry)) .answer ⌝ }
+    ensures { λ _. ⌜ now (out .exit) ≡ listed-over (call (length (now (out .entry))) caller OwnSGroups (now (t .entry)) .list) (now (out .entry)) ⌝ }
 {
     let size = t[SIZE_AT] as u32;
     let r = caller_reason(size, caller);

@@ -8,7 +8,7 @@ use Rattle.nodes.specs.Sets.{has}
 use Rattle.semantics.specs.Sizes.{group-names}
 use Rattle.semantics.specs.State.{Group}
 use Rattle.semantics.specs.Places.{group-at}
-use Rattle.semantics.specs.declared.Reason.the-variants.{GroupUnknown, NotMember}
+use Rattle.answers.specs.declared.Reason.the-variants.{GroupUnknown, NotMember}
 use Rattle.place.specs.declared.Place.{Place}
 use Rattle.place.specs.declared.Place.the-variants.{At, Gap}
 use Rattle.place.specs.declared.Access.{Access}

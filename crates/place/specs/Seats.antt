@@ -23,9 +23,9 @@ use Rattle.semantics.specs.Regular.{Every, Rising, Regular-group, Regular}
 use Rattle.semantics.specs.Places.{group-at, contents-name}
 use Rattle.semantics.specs.Groups.{found, found-name}
 use Rattle.semantics.specs.Sections.{read}
-use Rattle.semantics.specs.Laid.{Laid, count-is}
-use Rattle.semantics.specs.declared.Value.{Value}
-use Rattle.semantics.specs.declared.Reason.{Reason}
+use Rattle.semantics.specs.WordsOfState.{Laid, count-is}
+use Rattle.answers.specs.declared.Value.{Value}
+use Rattle.answers.specs.declared.Reason.{Reason}
 use Rattle.place.specs.Place.{place-in, place-from, place-of, open-at, place-for}
 use Rattle.place.specs.declared.Place.{Place}
 use Rattle.place.specs.declared.Place.the-variants.{At, Gap}

@@ -12,7 +12,7 @@ use Rattle.semantics.specs.Table.{state-of}
 use Rattle.semantics.specs.Test.{sound}
 use Rattle.semantics.specs.Regular.{Regular}
 use Rattle.semantics.specs.Places.{group-at, members-at-place}
-use Rattle.semantics.specs.Laid.{Laid, size-is, count-is, members-word}
+use Rattle.semantics.specs.WordsOfState.{Laid, size-is, count-is, members-word}
 use Rattle.semantics.specs.Agree.{test-regular, test-laid}
 use Rattle.place.specs.Place.{place-of, place-for}
 use Rattle.place.specs.Seats.{Seat, Sought, Granted, sought, granted}

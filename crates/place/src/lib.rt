@@ -1,9 +1,9 @@
 // Where the s_group of a name stands in a table, and for whom it is open.
+use answers::Reason;
 use layout::CONTENTS_AT;
 use layout::COUNT_AT;
 use layout::GROUP_NAMES;
 use layout::MEMBERS_AT;
-use semantics::Reason;
 ghost use mathlib.Core.Path.{_≡_};
 ghost use mathlib.Core.Bool.{true};
 ghost use Prim.Native.Nat.{_≤_};

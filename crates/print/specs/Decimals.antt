@@ -11,13 +11,13 @@ use lib.Dec.{ltb}
 use lib.ListN.{length, getD, drop, length-append, drop-of-length-le}
 use lib.Seq.{drop-cons}
 use Rattle.io.specs.Digits.{digits, glyph, Fewest}
-use Rattle.semantics.specs.Answers.{word, numbers, number}
-use Rattle.semantics.specs.declared.Answer.{Answer}
-use Rattle.semantics.specs.declared.Value.{Value}
-use Rattle.semantics.specs.declared.Value.the-variants.{Ok, True, False, Error, Undefined, Pid, Grouped, Nodes, Listed}
-use Rattle.fields.specs.Text.{newline}
+use Rattle.answers.specs.Answers.{word, numbers, number}
+use Rattle.answers.specs.declared.Answer.{Answer}
+use Rattle.answers.specs.declared.Value.{Value}
+use Rattle.answers.specs.declared.Value.the-variants.{Ok, True, False, Error, Undefined, Pid, Grouped, Nodes, Listed}
+use Rattle.text.specs.Text.{newline}
 use Rattle.print.specs.Sheets.{Sheet, put}
-use Rattle.print.specs.Lines.{decimal-in, decimal, spaced, answer-line}
+use Rattle.print.specs.Printed.{decimal-in, decimal, spaced, answer-line}
 use Rattle.print.specs.Putting.{put-append, put-next}
 
 -- ---- what `io::decimal` writes is `decimal`

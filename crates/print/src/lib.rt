@@ -1,11 +1,11 @@
 // Bytes, numbers and answers, put one behind the other into a run that the caller lends. Where the run is full, what is left over is dropped.
 ghost use mathlib.Core.Path.{_≡_};
 ghost use mathlib.Core.List.{[], _∷_, _++_};
-ghost use Rattle.semantics.specs.Answers.{word, numbers};
+ghost use Rattle.answers.specs.Answers.{word, numbers};
 ghost use Rattle.print.specs.Sheets.{sheet, put};
-ghost use Rattle.print.specs.Lines.{decimal, spaced, answer-line};
-use semantics::Answer;
-use semantics::Value;
+ghost use Rattle.print.specs.Printed.{decimal, spaced, answer-line};
+use answers::Answer;
+use answers::Value;
 
 // The most digits that a number of 64 bits has.
 const MOST_DIGITS: usize = 20;
@@ -104,6 +104,6 @@ pub fn put_answer(out: &mut [u8], at: usize, words: &[u64], answer: Answer) -> u
     let reason = answer.reason;
     let p = put_value(out, at, value);
     let q = put_words(out, p, words);
-    let r = put_spaced(out, q, semantics::number(reason) as u64);
+    let r = put_spaced(out, q, answers::number(reason) as u64);
     put_byte(out, r, b'\n')
 }

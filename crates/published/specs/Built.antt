@@ -10,27 +10,27 @@ use lib.Dec.{eqb, ltb}
 use lib.ListN.{getD}
 use borrow.Author.Tests.{eqb-true, ltb-true}
 use Rattle.nodes.specs.Sets.{node-limit, has}
-use Rattle.nodes.specs.Laws.{has-none, has-ext}
+use Rattle.nodes.specs.SetLaws.{has-none, has-ext}
 use Rattle.entries.specs.Entries.{Entry, half-word, lookup, holds-pid}
-use Rattle.entries.specs.Soundness as Namespace
-use Rattle.entries.specs.Soundness.{Ascending, Distinct, Hosted}
+use Rattle.entries.specs.NamespaceSound as Namespace
+use Rattle.entries.specs.NamespaceSound.{Ascending, Distinct, Hosted}
 use Rattle.semantics.specs.Sizes.{names-per-group, group-names}
 use Rattle.semantics.specs.State.{Group, State, find, all-members}
-use Rattle.semantics.specs.Commands.{held}
+use Rattle.semantics.specs.Ranges.{held}
 use Rattle.semantics.specs.Table.{layout}
 use Rattle.semantics.specs.Soundness.{Sound}
 use Rattle.semantics.specs.Regular.{Every, Rising, Regular-group, Met, Regular, loose}
 use Rattle.semantics.specs.Truth.{or-cases, unless}
-use Rattle.semantics.specs.Loose.{has-free-nodes}
-use Rattle.semantics.specs.Trip.{round-trip}
+use Rattle.semantics.specs.FreeGroupsOfNodes.{has-free-nodes}
+use Rattle.semantics.specs.RoundTrip.{round-trip}
 use Rattle.semantics.specs.Agree.{regular-test, sound-iff}
 use Rattle.published.specs.Published.{Set, of-some, SGroup, Namespace, Node, Published, those, IsSGroupNode}
 use Rattle.published.specs.Seen.{seen, names-seen, published, word, runs, seen-table}
 use Rattle.published.specs.WellFormed.{connected, free, Fair-namespace, WellFormed}
-use Rattle.published.specs.Any.{any-case}
-use Rattle.published.specs.Runs.{has-word, word-lt, word-has}
-use Rattle.published.specs.Look.{on-some, held-those, groups-seen, nodes-seen, members-seen}
-use Rattle.published.specs.Gather.{gather, gather-ind, length-gather, looked, length-each, at-each}
+use Rattle.published.specs.SomeBelow.{any-case}
+use Rattle.published.specs.Concatenated.{has-word, word-lt, word-has}
+use Rattle.published.specs.GroupsSeen.{on-some, held-those, groups-seen, nodes-seen, members-seen}
+use Rattle.published.specs.AscendingList.{gather, gather-ind, length-gather, looked, length-each, at-each}
 
 -- ---- the entries of a namespace
 

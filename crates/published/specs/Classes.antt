@@ -6,14 +6,15 @@ use mathlib.Core.Option.{Option, none, some}
 use Prim.Native.Nat.{ℕ}
 use borrow.Author.Tests.{eq-eqb, lt-ltb}
 use Rattle.semantics.specs.Sizes.{group-names}
-use Rattle.semantics.specs.Commands.{Command, held}
+use Rattle.commands.specs.declared.Command.{Command}
+use Rattle.semantics.specs.Ranges.{held}
 use Rattle.semantics.specs.Fits.{Fits}
-use Rattle.semantics.specs.Keeps.{keeps}
+use Rattle.semantics.specs.StepsKeep.{keeps}
 use Rattle.published.specs.Published.{of-some, SGroup, Node, Published, those, IsSGroupNode, IsFreeNormalNode, IsFreeHiddenNode}
 use Rattle.published.specs.Refusals.{Answered, answer}
 use Rattle.published.specs.WellFormed.{free, WellFormed}
-use Rattle.published.specs.Any.{any-case}
-use Rattle.published.specs.Look.{member}
+use Rattle.published.specs.SomeBelow.{any-case}
+use Rattle.published.specs.GroupsSeen.{member}
 use Rattle.published.specs.Exact.{exact}
 use Rattle.published.specs.Built.{built, built-regular, built-seen}
 use Rattle.published.specs.Fair.{fair}

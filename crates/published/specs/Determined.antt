@@ -12,8 +12,8 @@ use lib.Seq.{ext-getD}
 use borrow.Author.Tests.{lt-ltb, le-ltb}
 use Rattle.nodes.specs.Sets.{has}
 use Rattle.nodes.specs.Bools.{by-lt, and-follows}
-use Rattle.nodes.specs.Laws.{has-ext, has-below}
-use Rattle.entries.specs.Laws.{lookups-determine}
+use Rattle.nodes.specs.SetLaws.{has-ext, has-below}
+use Rattle.entries.specs.EntryLaws.{lookups-determine}
 use Rattle.semantics.specs.Sizes.{names-per-group, group-names}
 use Rattle.semantics.specs.State.{Group, State, find}
 use Rattle.semantics.specs.Table.{state-of}
@@ -24,7 +24,7 @@ use Rattle.semantics.specs.Changed.{regular-found}
 use Rattle.semantics.specs.Agree.{test-regular, same-state-same-table, sound-iff}
 use Rattle.published.specs.Published.{of-some, SGroup, Node, Published, those}
 use Rattle.published.specs.Seen.{seen, published, runs, seen-table}
-use Rattle.published.specs.Look.{on-some, groups-seen, node-seen, nothing-there, those-seen, gathered}
+use Rattle.published.specs.GroupsSeen.{on-some, groups-seen, node-seen, nothing-there, those-seen, gathered}
 
 module _ {cap : ℕ} (a b : State) (v : Regular cap a) (w : Regular cap b) (e : published a ≡ published b) where
   -- a test of a node of both

@@ -6,7 +6,8 @@ use mathlib.Core.List.{List}
 use Prim.Native.Nat.{ℕ}
 use Rattle.semantics.specs.Sizes.{names-per-group}
 use Rattle.semantics.specs.State.{State}
-use Rattle.semantics.specs.Commands.{Command, answer-of}
+use Rattle.commands.specs.declared.Command.{Command}
+use Rattle.answers.specs.Answers.{answer-of}
 use Rattle.semantics.specs.Steps.{Result, step}
 use Rattle.semantics.specs.Table.{state-of}
 use Rattle.semantics.specs.Soundness.{Sound}
@@ -14,11 +15,11 @@ use Rattle.semantics.specs.Test.{sound}
 use Rattle.semantics.specs.Call.{Call, call}
 use Rattle.semantics.specs.Regular.{Regular}
 use Rattle.semantics.specs.Fits.{Fits}
-use Rattle.semantics.specs.Keeps.{keeps}
-use Rattle.semantics.specs.Trip.{round-trip}
+use Rattle.semantics.specs.StepsKeep.{keeps}
+use Rattle.semantics.specs.RoundTrip.{round-trip}
 use Rattle.semantics.specs.Agree.{test-regular, sound-iff}
 use Rattle.semantics.specs.Calls.{call-sound, calls-keep-sound}
-use Rattle.semantics.specs.declared.Reason.{Reason}
+use Rattle.answers.specs.declared.Reason.{Reason}
 use Rattle.published.specs.Published.{Step, gives, transition}
 use Rattle.published.specs.Seen.{published, said, seen-table}
 use Rattle.published.specs.Refusals.{first, tests, ruled, refusal, Answered, answer}

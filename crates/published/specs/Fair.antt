@@ -12,11 +12,11 @@ use lib.ListN.{getD}
 use borrow.Author.Tests.{eqb-true, eq-eqb, ne-eqb, lt-ltb}
 use Rattle.nodes.specs.Sets.{has}
 use Rattle.nodes.specs.Bools.{by-eq, and-follows}
-use Rattle.nodes.specs.Laws.{has-below}
+use Rattle.nodes.specs.SetLaws.{has-below}
 use Rattle.entries.specs.Entries.{Entry, half-word, lookup}
-use Rattle.entries.specs.Soundness as Namespace
-use Rattle.entries.specs.Soundness.{Ascending, Distinct}
-use Rattle.entries.specs.Laws.{holds-pid-lookup}
+use Rattle.entries.specs.NamespaceSound as Namespace
+use Rattle.entries.specs.NamespaceSound.{Ascending, Distinct}
+use Rattle.entries.specs.EntryLaws.{holds-pid-lookup}
 use Rattle.semantics.specs.Sizes.{names-per-group}
 use Rattle.semantics.specs.State.{Group, State, find}
 use Rattle.semantics.specs.Table.{state-of}
@@ -24,16 +24,16 @@ use Rattle.semantics.specs.Soundness.{Sound}
 use Rattle.semantics.specs.Regular.{Every, Rising, Met, Regular, loose}
 use Rattle.semantics.specs.Members.{in-word}
 use Rattle.semantics.specs.Groups.{of-found, found-name}
-use Rattle.semantics.specs.Names.{host-found}
+use Rattle.semantics.specs.NamesKept.{host-found}
 use Rattle.semantics.specs.Changed.{regular-found, small-name}
 use Rattle.semantics.specs.Agree.{test-regular, sound-iff}
 use Rattle.published.specs.Published.{SGroup, Namespace, Node, IsSGroupNode}
 use Rattle.published.specs.Seen.{seen, names-seen, published, seen-table}
 use Rattle.published.specs.WellFormed.{connected, free, Fair-namespace, Fair-group, WellFormed}
-use Rattle.published.specs.Any.{any-has}
-use Rattle.published.specs.Look.{on-some, roster-seen, groups-seen, node-seen, nothing-there, those-seen, count-groups}
+use Rattle.published.specs.SomeBelow.{any-has}
+use Rattle.published.specs.GroupsSeen.{on-some, roster-seen, groups-seen, node-seen, nothing-there, those-seen, count-groups}
 use Rattle.published.specs.NamesSeen.{count-names}
-use Rattle.published.specs.Connecting.{loose-is, connected-seen}
+use Rattle.published.specs.ConnectRule.{loose-is, connected-seen}
 use Rattle.published.specs.Determined.{table-determined}
 use Rattle.published.specs.Built.{table-of, table-sound, table-seen}
 

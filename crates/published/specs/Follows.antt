@@ -9,15 +9,15 @@ use Rattle.nodes.specs.Sets.{has}
 use Rattle.semantics.specs.State.{Group, State}
 use Rattle.semantics.specs.Steps as W
 use Rattle.semantics.specs.Steps.{Result, Outcome, error, say, settle, apply, for-member}
-use Rattle.semantics.specs.declared.Value.{Value}
-use Rattle.semantics.specs.declared.Value.the-variants.{Error}
-use Rattle.semantics.specs.declared.Reason.{Reason}
-use Rattle.semantics.specs.declared.Reason.the-variants.{GroupUnknown, NotMember}
+use Rattle.answers.specs.declared.Value.{Value}
+use Rattle.answers.specs.declared.Value.the-variants.{Error}
+use Rattle.answers.specs.declared.Reason.{Reason}
+use Rattle.answers.specs.declared.Reason.the-variants.{GroupUnknown, NotMember}
 use Rattle.published.specs.Published as P
 use Rattle.published.specs.Published.{of-some, SGroup, Step, gives}
 use Rattle.published.specs.Seen.{seen, published, said}
 use Rattle.published.specs.Refusals.{ruled}
-use Rattle.published.specs.Look.{on-some}
+use Rattle.published.specs.GroupsSeen.{on-some}
 
 -- the same state, value and list
 pub record Follows (r : Result) (q : Step) : Type 0 where

@@ -7,25 +7,27 @@ use Prim.Native.Nat.{ℕ, _^_, _<_}
 use lib.Dec.{eqb, leb}
 use borrow.Author.Tests.{eqb-true, eq-eqb, leb-false}
 use Rattle.nodes.specs.Sets.{node-limit, has, union, beyond}
-use Rattle.nodes.specs.Laws.{has-union, union-lt}
+use Rattle.nodes.specs.SetLaws.{has-union, union-lt}
 use Rattle.entries.specs.Entries.{lookup}
 use Rattle.semantics.specs.Sizes.{group-limit, group-names}
 use Rattle.semantics.specs.State.{Group, State, with-groups, with-links, with-free, find, put, add-group}
-use Rattle.semantics.specs.Commands.{within, add-nodes, new-s-group, held}
+use Rattle.commands.specs.declared.Command.the-variants.{Within}
+use Rattle.commands.specs.declared.GroupCommand.the-variants.{AddNodes, NewSGroup}
+use Rattle.semantics.specs.Ranges.{held}
 use Rattle.semantics.specs.Steps.{Result, Outcome, create, apply, done, say, settle, inside, interconnect, leave-free}
-use Rattle.semantics.specs.declared.Value.the-variants.{Error, Grouped}
-use Rattle.semantics.specs.declared.Reason.the-variants.{NodeUnknown, CallerOutside, GroupTaken, GroupsFull}
+use Rattle.answers.specs.declared.Value.the-variants.{Error, Grouped}
+use Rattle.answers.specs.declared.Reason.the-variants.{NodeUnknown, CallerOutside, GroupTaken, GroupsFull}
 use Rattle.semantics.specs.Regular.{Regular}
 use Rattle.semantics.specs.Truth.{or-cases, unless}
-use Rattle.semantics.specs.Names.{not-held}
+use Rattle.semantics.specs.NamesKept.{not-held}
 use Rattle.semantics.specs.Members.{in-word}
 use Rattle.semantics.specs.Changed.{regular-found, small-name}
 use Rattle.published.specs.Published as P
 use Rattle.published.specs.Published.{Set, Map, _∖_, with-at, SGroup, Namespace, NoGroup, Names, IsSGroupNode, AddSGroupS, AddSGroup, gives, joining, transition}
 use Rattle.published.specs.Seen.{seen, published, names-seen}
-use Rattle.published.specs.Any.{any-hit, any-case, any-none, any-is}
-use Rattle.published.specs.Runs.{word-of}
-use Rattle.published.specs.Look.{on-some, member, groups-seen, hidden-seen, put-seen, add-seen}
+use Rattle.published.specs.SomeBelow.{any-hit, any-case, any-none, any-is}
+use Rattle.published.specs.Concatenated.{word-of}
+use Rattle.published.specs.GroupsSeen.{on-some, member, groups-seen, hidden-seen, put-seen, add-seen}
 use Rattle.published.specs.Rewired.{interconnect-seen, regroup-seen, leave-seen}
 use Rattle.published.specs.Follows.{Agrees, by-refusal, kept, by-member}
 
@@ -108,8 +110,8 @@ module _ {cap : ℕ} (st : State) (w : Regular cap st) (room G i s : ℕ) (small
   abbrev settled : Outcome → Result
   settled o = settle s o st
 
-  pub adds : (set : ℕ) → Agrees (settled (inside room (st .size) G i (add-nodes s set) (find s (st .groups))))
-      (transition (within (add-nodes s set)) i (published st))
+  pub adds : (set : ℕ) → Agrees (settled (inside room (st .size) G i (AddNodes s set) (find s (st .groups))))
+      (transition (Within (AddNodes s set)) i (published st))
   unfolding inside published apply transition
   adds set =
       by-refusal settled (beyond set (st .size)) (say Error NodeUnknown) _ _ refl λ x.
@@ -126,8 +128,8 @@ module _ {cap : ℕ} (st : State) (w : Regular cap st) (room G i s : ℕ) (small
         said-is = λ k. (Grouped s (word-of node-limit set (in-word (w .size-high) set-in) k), []);
       }
 
-  pub creates : (set : ℕ) → Agrees (settled (inside room (st .size) G i (new-s-group s set) (find s (st .groups))))
-      (transition (within (new-s-group s set)) i (published st))
+  pub creates : (set : ℕ) → Agrees (settled (inside room (st .size) G i (NewSGroup s set) (find s (st .groups))))
+      (transition (Within (NewSGroup s set)) i (published st))
   unfolding inside published apply transition lookup
   creates set = by-refusal settled (beyond set (st .size)) (say Error NodeUnknown) _ _ refl λ x. go x (has set i)
     where

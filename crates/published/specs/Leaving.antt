@@ -11,21 +11,21 @@ use lib.Dec.{eqb, ltb}
 use lib.ListN.{length, getD}
 use borrow.Author.Tests.{eqb-true, eq-eqb, ltb-true, lt-ltb, not-true}
 use Rattle.nodes.specs.Sets.{node-limit, has, empty, union, inter, diff}
-use Rattle.nodes.specs.Laws.{has-union, has-inter, has-diff, has-none, has-below, below-pow, union-lt, inter-le-l, inter-le-r, diff-le}
+use Rattle.nodes.specs.SetLaws.{has-union, has-inter, has-diff, has-none, has-below, below-pow, union-lt, inter-le-l, inter-le-r, diff-le}
 use Rattle.entries.specs.Entries.{lookup}
 use Rattle.semantics.specs.State.{Group, State, free-of, find, put, drop-group, all-members}
-use Rattle.semantics.specs.Commands.{held}
+use Rattle.semantics.specs.Ranges.{held}
 use Rattle.semantics.specs.Steps.{lot, touched, become-free, left-in}
 use Rattle.semantics.specs.Regular.{Met, Regular, loose}
 use Rattle.semantics.specs.Groups.{of-found}
 use Rattle.semantics.specs.Members.{in-word}
-use Rattle.semantics.specs.Loose.{loose-on-roster, loose-in, own-free}
+use Rattle.semantics.specs.FreeGroupsOfNodes.{loose-on-roster, loose-in, own-free}
 use Rattle.semantics.specs.Changed.{regular-found}
 use Rattle.semantics.specs.Freed.{touched-in, touched-out, regular-delete, regular-remove, regular-empty}
 use Rattle.published.specs.Published.{Set, Map, of-some, _∖_, any, with-at, less-at, SGroup, GrNames, Node, Published, those, with-gr-names, IsSGroupNode, InterConnectNodes, Joined, LessSGroupS, RemoveSGroup, left-none, leaving}
 use Rattle.published.specs.Seen.{seen, published, names-seen}
-use Rattle.published.specs.Any.{any-hit, any-is, any-has}
-use Rattle.published.specs.Look.{on-some, member, groups-seen, free-seen, hidden-seen, node-seen, nodes-seen, put-seen, drop-seen, members-seen}
+use Rattle.published.specs.SomeBelow.{any-hit, any-is, any-has}
+use Rattle.published.specs.GroupsSeen.{on-some, member, groups-seen, free-seen, hidden-seen, node-seen, nodes-seen, put-seen, drop-seen, members-seen}
 use Rattle.published.specs.Rewired.{interconnect-seen, join-seen}
 use Rattle.published.specs.Joining.{name-low}
 use Rattle.published.specs.Parting.{left-names, names-left, left-last, in-or-left}

@@ -15,8 +15,8 @@ use Rattle.entries.specs.Entries.{half-word}
 use Rattle.semantics.specs.Sizes.{group-names}
 use Rattle.published.specs.Published.{Set, Map, of-some}
 use Rattle.published.specs.Seen.{word, runs, name-words, group-words}
-use Rattle.published.specs.Runs.{in-turn}
-use Rattle.published.specs.Look.{on-some}
+use Rattle.published.specs.Concatenated.{in-turn}
+use Rattle.published.specs.GroupsSeen.{on-some}
 
 -- ---- registered_names
 

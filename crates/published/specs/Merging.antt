@@ -9,11 +9,11 @@ use native.Mathlib.Omega.{arith}
 use Rattle.nodes.specs.Sets.{node-limit}
 use Rattle.nodes.specs.Bools.{by-lt}
 use Rattle.semantics.specs.Sizes.{group-names}
-use Rattle.semantics.specs.Commands.{held}
+use Rattle.semantics.specs.Ranges.{held}
 use Rattle.semantics.specs.Truth.{unless}
 use Rattle.published.specs.Published.{Set, Map, of-some, _∪_, nobody, any, GrNames, NoGroup, Names, Node, FreeGroups, Published, those, with-gr-names, with-free, InterConnectNodes, Joined, left-none, NewlyFree, FindFreeNormalGroups, MergeFreeNormalGroups, AddFreeNormalGroup, NewFreeNodes}
-use Rattle.published.specs.Any.{any-case, any-none, any-no}
-use Rattle.published.specs.Look.{on-some, held-those}
+use Rattle.published.specs.SomeBelow.{any-case, any-none, any-no}
+use Rattle.published.specs.GroupsSeen.{on-some, held-those}
 use Rattle.published.specs.Rewired.{interconnect-idle}
 
 -- {} as NoGroup

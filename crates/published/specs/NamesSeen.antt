@@ -11,17 +11,17 @@ use lib.ListN.{length}
 use borrow.Author.Tests.{eqb-true, eq-eqb, ne-eqb}
 use Rattle.nodes.specs.Bools.{by-eq}
 use Rattle.entries.specs.Entries.{Entry, half-word, insert, remove, lookup, holds-pid}
-use Rattle.entries.specs.Soundness.{Ascending}
-use Rattle.entries.specs.Laws.{lookup-insert-same, lookup-insert-other, lookup-remove-same, lookup-remove-other, holds-pid-lookup}
+use Rattle.entries.specs.NamespaceSound.{Ascending}
+use Rattle.entries.specs.EntryLaws.{lookup-insert-same, lookup-insert-other, lookup-remove-same, lookup-remove-other, holds-pid-lookup}
 use Rattle.semantics.specs.Sizes.{group-names}
-use Rattle.semantics.specs.Commands.{held}
+use Rattle.semantics.specs.Ranges.{held}
 use Rattle.semantics.specs.Steps.{name-words}
 use Rattle.semantics.specs.Truth.{or-cases}
 use Rattle.published.specs.Published.{of-some, with-at, less-at, has-pid, OutputNs}
 use Rattle.published.specs.Seen as Seen
 use Rattle.published.specs.Seen.{count, runs}
-use Rattle.published.specs.Any.{any-hit, any-is}
-use Rattle.published.specs.Runs.{run-at, run-all, Between, from-zero, runs-keyed, run-all-one, length-runs, in-turn, count-runs}
+use Rattle.published.specs.SomeBelow.{any-hit, any-is}
+use Rattle.published.specs.Concatenated.{run-at, run-all, Between, from-zero, runs-keyed, run-all-one, length-runs, in-turn, count-runs}
 
 -- ---- one name
 

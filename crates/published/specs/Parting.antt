@@ -10,8 +10,8 @@ use Rattle.semantics.specs.Sizes.{group-names}
 use Rattle.semantics.specs.Truth.{or-cases, unless}
 use Rattle.published.specs.Published.{Set, Map, any, SGroup, GrNames, NoGroup, Names, IsSGroupNode, LessSGroupS, left-none}
 use Rattle.published.specs.Seen.{names-seen}
-use Rattle.published.specs.Any.{any-hit, any-case, any-none, any-is}
-use Rattle.published.specs.Look.{member}
+use Rattle.published.specs.SomeBelow.{any-hit, any-case, any-none, any-is}
+use Rattle.published.specs.GroupsSeen.{member}
 use Rattle.published.specs.Merging.{to-NoGroup}
 
 module _ (grs grs′ : Map SGroup) (s : ℕ) (nis : Set)

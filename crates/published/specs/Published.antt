@@ -8,7 +8,11 @@ use lib.Dec.{eqb, ltb}
 use Rattle.nodes.specs.Sets.{node-limit, has}
 use Rattle.entries.specs.Entries.{half-word, host}
 use Rattle.semantics.specs.Sizes.{group-names}
-use Rattle.semantics.specs.Commands.{held, Command, within, register-name, re-register-name, unregister-name, whereis-name, registered-names, add-nodes, new-s-group, whereis-name-at, send-at, send, send-name, remove-nodes, delete-s-group, own-nodes, own-s-groups}
+use Rattle.commands.specs.declared.Command.{Command}
+use Rattle.commands.specs.declared.Command.the-variants.{Within, WhereisNameAt, SendAt, Send, SendName, DeleteSGroup, OwnNodes, OwnSGroups}
+use Rattle.commands.specs.declared.Command.the-variants as Command
+use Rattle.commands.specs.declared.GroupCommand.the-variants.{RegisterName, ReRegisterName, UnregisterName, WhereisName, RegisteredNames, AddNodes, NewSGroup}
+use Rattle.semantics.specs.Ranges.{held}
 
 -- ---- sets and maps
 
@@ -288,39 +292,39 @@ then-send ni found X = of-some (gives Undefined X) (λ p. gives (Pid p) (AddConn
 
 -- the fifteen; who is not a member gets False from unregister_name, and Error from delete_s_group and remove_nodes, where 000 has False (01)
 unfoldable pub transition : Command → ℕ → Published → Step
-transition (within (register-name s n p)) ni X =
+transition (Within (RegisterName s n p)) ni X =
     as-member ni s False X λ g.
     cond (not (held (g .namespace n)) && not (has-pid p (g .namespace)))
     (gives True (with-group s (g .nodes) (with-at n p (g .namespace)) X))
     (gives False X)
-transition (within (re-register-name s n p)) ni X =
+transition (Within (ReRegisterName s n p)) ni X =
     as-member ni s False X λ g.
     cond (not (has-pid p (g .namespace)))
     (gives True (with-group s (g .nodes) (with-at n p (less-at n (g .namespace))) X))
     (gives False X)
-transition (within (unregister-name s n)) ni X =
+transition (Within (UnregisterName s n)) ni X =
     as-member ni s False X λ g.
     cond (held (g .namespace n)) (gives True (with-group s (g .nodes) (less-at n (g .namespace)) X)) (gives True X)
-transition (within (registered-names s)) ni X =
+transition (Within (RegisteredNames s)) ni X =
     as-member ni s (Nss (λ t. nobody)) X λ g. gives (Nss (OutputNs s (g .namespace))) X
-transition (within (whereis-name s n)) ni X = gives (of-some Undefined Pid (found-by ni s n (X .grs))) X
-transition (whereis-name-at ni′ s n) ni X = gives (of-some Undefined Pid (FindName ni′ s n (X .grs))) (AddConnections ni ni′ X)
-transition (send p) ni X = gives (Pid p) (AddConnections ni (host p) X)
-transition (send-name s n) ni X = then-send ni (found-by ni s n (X .grs)) X
-transition (send-at ni′ s n) ni X = then-send ni (FindName ni′ s n (X .grs)) (AddConnections ni ni′ X)
-transition (within (new-s-group s set)) ni X =
+transition (Within (WhereisName s n)) ni X = gives (of-some Undefined Pid (found-by ni s n (X .grs))) X
+transition (WhereisNameAt ni′ s n) ni X = gives (of-some Undefined Pid (FindName ni′ s n (X .grs))) (AddConnections ni ni′ X)
+transition (Send p) ni X = gives (Pid p) (AddConnections ni (host p) X)
+transition (SendName s n) ni X = then-send ni (found-by ni s n (X .grs)) X
+transition (SendAt ni′ s n) ni X = then-send ni (FindName ni′ s n (X .grs)) (AddConnections ni ni′ X)
+transition (Within (NewSGroup s set)) ni X =
     cond (has set ni) (gives (Grp s (has set)) (joining s (has set) (has set) (λ n. none) X)) (gives Error X)
-transition (within (add-nodes s set)) ni X =
+transition (Within (AddNodes s set)) ni X =
     as-member ni s Error X λ g. gives (Grp s (has set)) (joining s (has set) (g .nodes ∪ has set) (g .namespace) X)
-transition (delete-s-group s) ni X = as-member ni s Error X λ g. gives True (leaving s (g .nodes) (less-at s (X .grs)) X)
+transition (DeleteSGroup s) ni X = as-member ni s Error X λ g. gives True (leaving s (g .nodes) (less-at s (X .grs)) X)
 -- the caller may leave too, and an s_group left empty goes (01)
-transition (remove-nodes s set) ni X =
+transition (Command.RemoveNodes s set) ni X =
     as-member ni s Error X λ g.
     let left : Set = g .nodes ∖ has set in
     let grs : Map SGroup = cond (any node-limit left) (with-at s (record { nodes = left; namespace = g .namespace }) (X .grs)) (less-at s (X .grs)) in
     gives True (leaving s (has set) grs X)
-transition own-nodes ni X = gives (Nis (OwnGroupNis ni X)) X
-transition own-s-groups ni X = gives (Snis (cond (IsSGroupNode ni (X .grs)) (OutputOwnSGroups ni (X .grs)) (λ s. none))) X
+transition OwnNodes ni X = gives (Nis (OwnGroupNis ni X)) X
+transition OwnSGroups ni X = gives (Snis (cond (IsSGroupNode ni (X .grs)) (OutputOwnSGroups ni (X .grs)) (λ s. none))) X
 
 -- ---- opening (01)
 

@@ -8,12 +8,16 @@ use lib.Dec.{eqb, ltb, leb}
 use lib.ListN.{length}
 use Rattle.nodes.specs.Sets.{node-limit, has}
 use Rattle.entries.specs.Entries.{half-word, host}
-use Rattle.semantics.specs.Answers.{number}
+use Rattle.answers.specs.Answers.{number}
 use Rattle.semantics.specs.Sizes.{group-limit, names-per-group, group-names, table-words}
-use Rattle.semantics.specs.Commands.{held, bad-group, answer-of, Command, within, register-name, re-register-name, unregister-name, whereis-name, registered-names, add-nodes, new-s-group, whereis-name-at, send-at, send, send-name, remove-nodes, delete-s-group, own-nodes, own-s-groups}
-use Rattle.semantics.specs.declared.Answer.{Answer}
-use Rattle.semantics.specs.declared.Reason.{Reason}
-use Rattle.semantics.specs.declared.Reason.the-variants.{Done, TableLength, RosterSize, CallerUnknown, GroupNameRange, NameZero, NodeUnknown, GroupUnknown, NotMember, NameTaken, PidTaken, NotRegistered, NamespaceFull, CallerOutside, GroupTaken, GroupsFull, RunShort}
+use Rattle.commands.specs.declared.Command.{Command}
+use Rattle.commands.specs.declared.Command.the-variants.{Within, WhereisNameAt, SendAt, Send, SendName, RemoveNodes, DeleteSGroup, OwnNodes, OwnSGroups}
+use Rattle.commands.specs.declared.GroupCommand.the-variants.{RegisterName, ReRegisterName, UnregisterName, WhereisName, RegisteredNames, AddNodes, NewSGroup}
+use Rattle.answers.specs.Answers.{answer-of}
+use Rattle.semantics.specs.Ranges.{held, bad-group}
+use Rattle.answers.specs.declared.Answer.{Answer}
+use Rattle.answers.specs.declared.Reason.{Reason}
+use Rattle.answers.specs.declared.Reason.the-variants.{Done, TableLength, RosterSize, CallerUnknown, GroupNameRange, NameZero, NodeUnknown, GroupUnknown, NotMember, NameTaken, PidTaken, NotRegistered, NamespaceFull, CallerOutside, GroupTaken, GroupsFull, RunShort}
 use Rattle.published.specs.Published.{Set, of-some, any, Namespace, Published, IsSGroupSNode, has-pid, Value, False, Error, Step, gives, transition}
 use Rattle.published.specs.Seen.{count, said}
 
@@ -85,33 +89,33 @@ tests-set s set ni X =
 
 -- the reasons that a command can have, by number; room is how many words the run for a list has
 unfoldable pub tests : ℕ → Command → ℕ → Published → List Test
-tests room (within (register-name s n p)) ni X =
+tests room (Within (RegisterName s n p)) ni X =
     CallerUnknown when off-roster ni X ∷ GroupNameRange when bad-group s ∷ NameZero when eqb n 0 ∷ NodeUnknown when off-roster (host p) X
     ∷ GroupUnknown when unknown s X ∷ NotMember when outsider ni s X ∷ NameTaken when held (names-in s X n)
     ∷ PidTaken when has-pid p (names-in s X) ∷ NamespaceFull when full s X ∷ []
-tests room (within (re-register-name s n p)) ni X =
+tests room (Within (ReRegisterName s n p)) ni X =
     CallerUnknown when off-roster ni X ∷ GroupNameRange when bad-group s ∷ NameZero when eqb n 0 ∷ NodeUnknown when off-roster (host p) X
     ∷ GroupUnknown when unknown s X ∷ NotMember when outsider ni s X ∷ PidTaken when has-pid p (names-in s X)
     ∷ NamespaceFull when (not (held (names-in s X n)) && full s X) ∷ []
-tests room (within (unregister-name s n)) ni X = tests-name s n ni X
-tests room (within (whereis-name s n)) ni X = tests-name s n ni X
-tests room (within (registered-names s)) ni X =
+tests room (Within (UnregisterName s n)) ni X = tests-name s n ni X
+tests room (Within (WhereisName s n)) ni X = tests-name s n ni X
+tests room (Within (RegisteredNames s)) ni X =
     CallerUnknown when off-roster ni X ∷ GroupNameRange when bad-group s ∷ GroupUnknown when unknown s X ∷ NotMember when outsider ni s X
-    ∷ RunShort when run-short room (transition (within (registered-names s)) ni X) ∷ []
-tests room (within (add-nodes s set)) ni X = tests-set s set ni X
-tests room (within (new-s-group s set)) ni X =
+    ∷ RunShort when run-short room (transition (Within (RegisteredNames s)) ni X) ∷ []
+tests room (Within (AddNodes s set)) ni X = tests-set s set ni X
+tests room (Within (NewSGroup s set)) ni X =
     CallerUnknown when off-roster ni X ∷ GroupNameRange when bad-group s ∷ NodeUnknown when strays (has set) X
     ∷ CallerOutside when not (has set ni) ∷ GroupTaken when held (X .grs s)
     ∷ GroupsFull when leb group-limit (count group-names (λ t. held (X .grs t))) ∷ []
-tests room (whereis-name-at ni′ s n) ni X = tests-at ni′ s n ni X
-tests room (send-at ni′ s n) ni X = tests-at ni′ s n ni X
-tests room (send p) ni X = CallerUnknown when off-roster ni X ∷ NodeUnknown when off-roster (host p) X ∷ []
-tests room (send-name s n) ni X = tests-name s n ni X
-tests room (remove-nodes s set) ni X = tests-set s set ni X
-tests room (delete-s-group s) ni X =
+tests room (WhereisNameAt ni′ s n) ni X = tests-at ni′ s n ni X
+tests room (SendAt ni′ s n) ni X = tests-at ni′ s n ni X
+tests room (Send p) ni X = CallerUnknown when off-roster ni X ∷ NodeUnknown when off-roster (host p) X ∷ []
+tests room (SendName s n) ni X = tests-name s n ni X
+tests room (RemoveNodes s set) ni X = tests-set s set ni X
+tests room (DeleteSGroup s) ni X =
     CallerUnknown when off-roster ni X ∷ GroupNameRange when bad-group s ∷ GroupUnknown when unknown s X ∷ NotMember when outsider ni s X ∷ []
-tests room own-nodes ni X = CallerUnknown when off-roster ni X ∷ []
-tests room own-s-groups ni X = CallerUnknown when off-roster ni X ∷ RunShort when run-short room (transition own-s-groups ni X) ∷ []
+tests room OwnNodes ni X = CallerUnknown when off-roster ni X ∷ []
+tests room OwnSGroups ni X = CallerUnknown when off-roster ni X ∷ RunShort when run-short room (transition OwnSGroups ni X) ∷ []
 
 -- opening N nodes, those of nis hidden, in a run of that many words
 abbrev pub opening-tests : ℕ → ℕ → Set → List Test

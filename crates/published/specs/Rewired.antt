@@ -13,7 +13,7 @@ use Rattle.semantics.specs.Steps.{interconnect, leave-free, one-free-group}
 use Rattle.semantics.specs.Members.{has-interconnect, has-leave-free, at-one-free-group}
 use Rattle.published.specs.Published.{Set, Map, of-some, _∪_, _∖_, only, nobody, SGroup, GrNames, Node, those, on-nodes, with-gr-names, InterConnectNodes, Joined}
 use Rattle.published.specs.Seen.{names-seen}
-use Rattle.published.specs.Look.{on-some, free-seen, node-seen, nodes-seen}
+use Rattle.published.specs.GroupsSeen.{on-some, free-seen, node-seen, nodes-seen}
 
 -- ---- connections
 

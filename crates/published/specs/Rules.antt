@@ -12,40 +12,43 @@ use Rattle.entries.specs.Entries.{host, lookup}
 use Rattle.semantics.specs.Sizes.{group-names}
 use Rattle.semantics.specs.State.{Group, State, find}
 use Rattle.semantics.specs.Steps as W
-use Rattle.semantics.specs.Commands.{bad-group}
+use Rattle.commands.specs.declared.Command.{Command}
+use Rattle.commands.specs.declared.Command.the-variants.{Within, WhereisNameAt, SendAt, Send, SendName, RemoveNodes, DeleteSGroup, OwnNodes, OwnSGroups}
+use Rattle.commands.specs.declared.GroupCommand.{GroupCommand}
+use Rattle.commands.specs.declared.GroupCommand.the-variants.{RegisterName, ReRegisterName, UnregisterName, WhereisName, RegisteredNames, AddNodes, NewSGroup}
+use Rattle.semantics.specs.Ranges.{bad-group}
 use Rattle.semantics.specs.Steps.{Result, reply, error, say, settle, told, target, inside, outcome, group-step, ask, send-on, tell, own-list, connect, rule, step}
-use Rattle.semantics.specs.Commands.{Command, GroupCommand, within, register-name, re-register-name, unregister-name, whereis-name, registered-names, add-nodes, new-s-group, whereis-name-at, send-at, send, send-name, remove-nodes, delete-s-group, own-nodes, own-s-groups}
-use Rattle.semantics.specs.declared.Value.the-variants.{Error}
-use Rattle.semantics.specs.declared.Reason.{Reason}
-use Rattle.semantics.specs.declared.Reason.the-variants.{CallerUnknown, GroupNameRange, NameZero, NodeUnknown, NotMember, NotRegistered, RunShort}
+use Rattle.answers.specs.declared.Value.the-variants.{Error}
+use Rattle.answers.specs.declared.Reason.{Reason}
+use Rattle.answers.specs.declared.Reason.the-variants.{CallerUnknown, GroupNameRange, NameZero, NodeUnknown, NotMember, NotRegistered, RunShort}
 use Rattle.semantics.specs.Regular.{Regular}
 use Rattle.semantics.specs.Truth.{neither}
-use Rattle.semantics.specs.Names.{host-found}
+use Rattle.semantics.specs.NamesKept.{host-found}
 use Rattle.semantics.specs.Changed.{regular-found}
 use Rattle.semantics.specs.Connected.{regular-connect, size-connect}
 use Rattle.published.specs.Published as P
 use Rattle.published.specs.Published.{of-some, FindName, found-by, then-send, AddConnections, transition}
 use Rattle.published.specs.Seen.{seen, published, said, listed}
-use Rattle.published.specs.Look.{on-some, member, groups-seen, nothing-there}
+use Rattle.published.specs.GroupsSeen.{on-some, member, groups-seen, nothing-there}
 use Rattle.published.specs.Follows.{Follows, Agrees, by-refusal, for-one}
-use Rattle.published.specs.Naming.{registers, re-registers, unregisters, looks-up, lists}
+use Rattle.published.specs.NamingRules.{registers, re-registers, unregisters, looks-up, lists}
 use Rattle.published.specs.Joining.{adds, creates}
-use Rattle.published.specs.Connecting.{connects}
+use Rattle.published.specs.ConnectRule.{connects}
 use Rattle.published.specs.Leaving.{deletes, removes}
-use Rattle.published.specs.Own.{own-said, own-list-seen}
+use Rattle.published.specs.OwnRules.{own-said, own-list-seen}
 
 -- ---- the seven that name one s_group
 
 module _ {cap : ℕ} (st : State) (w : Regular cap st) (room G i : ℕ) where
   agree-inside : (c : GroupCommand) → bad-group (target c) ≡ false
-      → Agrees (settle (target c) (inside room (st .size) G i c (find (target c) (st .groups))) st) (transition (within c) i (published st))
-  agree-inside (register-name s n p) ok = registers st w room G i s n p
-  agree-inside (re-register-name s n p) ok = re-registers st w room G i s n p
-  agree-inside (unregister-name s n) ok = unregisters st w room G i s n
-  agree-inside (whereis-name s n) ok = looks-up st w room G i s n (neither (eqb s 0) (leb group-names s) ok .0)
-  agree-inside (registered-names s) ok = lists st w room G i s (leb-false group-names s (neither (eqb s 0) (leb group-names s) ok .1))
-  agree-inside (add-nodes s set) ok = adds st w room G i s (leb-false group-names s (neither (eqb s 0) (leb group-names s) ok .1)) set
-  agree-inside (new-s-group s set) ok = creates st w room G i s (leb-false group-names s (neither (eqb s 0) (leb group-names s) ok .1)) set
+      → Agrees (settle (target c) (inside room (st .size) G i c (find (target c) (st .groups))) st) (transition (Within c) i (published st))
+  agree-inside (RegisterName s n p) ok = registers st w room G i s n p
+  agree-inside (ReRegisterName s n p) ok = re-registers st w room G i s n p
+  agree-inside (UnregisterName s n) ok = unregisters st w room G i s n
+  agree-inside (WhereisName s n) ok = looks-up st w room G i s n (neither (eqb s 0) (leb group-names s) ok .0)
+  agree-inside (RegisteredNames s) ok = lists st w room G i s (leb-false group-names s (neither (eqb s 0) (leb group-names s) ok .1))
+  agree-inside (AddNodes s set) ok = adds st w room G i s (leb-false group-names s (neither (eqb s 0) (leb group-names s) ok .1)) set
+  agree-inside (NewSGroup s set) ok = creates st w room G i s (leb-false group-names s (neither (eqb s 0) (leb group-names s) ok .1)) set
 
 -- ---- lookups and sends
 
@@ -115,11 +118,11 @@ itself r = r
 
 agree-rule : {cap : ℕ} (room i : ℕ) (c : Command) (st : State) → Regular cap st → i < st .size → Agrees (rule room i c st) (transition c i (published st))
 unfolding rule group-step outcome published transition
-agree-rule room i (within c) st w h =
+agree-rule room i (Within c) st w h =
     by-refusal (λ o. settle (target c) o st) (leb (st .size) i) (say Error CallerUnknown) _ _ refl λ x.
     by-refusal (λ o. settle (target c) o st) (bad-group (target c)) (say Error GroupNameRange) _ _ refl λ y.
     agree-inside st w room (length (st .groups)) i c y
-agree-rule room i (whereis-name-at j s n) st w h =
+agree-rule room i (WhereisNameAt j s n) st w h =
     by-refusal itself (leb group-names s) (error GroupNameRange st) _ _ refl λ x.
     by-refusal itself (eqb n 0) (error NameZero st) _ _ refl λ y.
     by-refusal itself (leb (st .size) j) (error NodeUnknown st) _ _ refl λ z k.
@@ -127,7 +130,7 @@ agree-rule room i (whereis-name-at j s n) st w h =
       state = connects st w i j h (leb-false (st .size) j z);
       said-is = ap (λ (o : Option ℕ). said (of-some P.Undefined P.Pid o)) (find-seen st j s n) ∙ pid-said (ask j s n st .found);
     }
-agree-rule room i (send-at j s n) st w h =
+agree-rule room i (SendAt j s n) st w h =
     by-refusal itself (leb group-names s) (error GroupNameRange st) _ _ refl λ x.
     by-refusal itself (eqb n 0) (error NameZero st) _ _ refl λ y.
     by-refusal itself (leb (st .size) j) (error NodeUnknown st) _ _ refl λ z k.
@@ -136,23 +139,23 @@ agree-rule room i (send-at j s n) st w h =
     (ap (then-send i (ask j s n st .found)) (connects st w i j h j-in)
     ∙ ap (λ (o : Option ℕ). then-send i o (AddConnections i j (published st))) (sym (find-seen st j s n)))
     (sends (connect i j st) (regular-connect w i j h j-in) i (rw (size-connect i j st) h) (ask j s n st .found) (rw (size-connect i j st) (hosted w j s n)) _)
-agree-rule room i (send p) st w h =
+agree-rule room i (Send p) st w h =
     by-refusal itself (leb (st .size) (host p)) (error NodeUnknown st) _ _ refl λ x k.
     record { state = connects st w i (host p) h (leb-false (st .size) (host p) x); said-is = refl }
-agree-rule room i (send-name s n) st w h =
+agree-rule room i (SendName s n) st w h =
     by-refusal itself (bad-group s) (error GroupNameRange st) _ _ refl λ x.
     by-refusal itself (eqb n 0) (error NameZero st) _ _ refl λ y k.
     subst (λ (o : Option ℕ). Follows (tell (ask i s n st) (send-on i (ask i s n st .found) st)) (then-send i o (published st))) (sym (found-by-seen st i s n))
     (sends st w i h (ask i s n st .found) (hosted w i s n) _)
-agree-rule room i (remove-nodes s set) st w h =
+agree-rule room i (RemoveNodes s set) st w h =
     by-refusal itself (bad-group s) (error GroupNameRange st) _ _ refl λ x.
     by-refusal itself (beyond set (st .size)) (error NodeUnknown st) _ _ refl λ y.
     for-one st s i (find s (st .groups)) _ _ λ g f k. record { state = removes st w s g f set; said-is = refl }
-agree-rule room i (delete-s-group s) st w h =
+agree-rule room i (DeleteSGroup s) st w h =
     by-refusal itself (bad-group s) (error GroupNameRange st) _ _ refl λ x.
     for-one st s i (find s (st .groups)) _ _ λ g f k. record { state = deletes st w s g f; said-is = refl }
-agree-rule room i own-nodes st w h = λ k. record { state = refl; said-is = own-said st w i h }
-agree-rule room i own-s-groups st w h =
+agree-rule room i OwnNodes st w h = λ k. record { state = refl; said-is = own-said st w i h }
+agree-rule room i OwnSGroups st w h =
     by-refusal (λ o. told o st) (ltb room (length (own-list i (st .groups)))) (say Error RunShort) _ _ refl λ x k.
     record { state = refl; said-is = ap listed (own-list-seen st w i) }
 

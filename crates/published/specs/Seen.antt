@@ -11,9 +11,9 @@ use Rattle.entries.specs.Entries.{half-word, lookup}
 use Rattle.semantics.specs.Sizes.{group-names, names-per-group}
 use Rattle.semantics.specs.State.{Group, State, free-of, find}
 use Rattle.semantics.specs.Table.{state-of}
-use Rattle.semantics.specs.declared.Value.{Value}
-use Rattle.semantics.specs.declared.Value.the-variants.{Grouped, Nodes, Listed}
-use Rattle.semantics.specs.declared.Value.the-variants as W
+use Rattle.answers.specs.declared.Value.{Value}
+use Rattle.answers.specs.declared.Value.the-variants.{Grouped, Nodes, Listed}
+use Rattle.answers.specs.declared.Value.the-variants as W
 use Rattle.published.specs.Published as P
 use Rattle.published.specs.Published.{Set, Map, of-some, SGroup, GrNames, NoGroup, Names, Published, IsSGroupSNode, IsSGroupNode, Nis, Nss, Snis}
 

@@ -9,7 +9,7 @@ use lib.Dec.{eqb, ltb}
 use Rattle.nodes.specs.Sets.{node-limit}
 use Rattle.entries.specs.Entries.{half-word, host}
 use Rattle.semantics.specs.Sizes.{group-limit, names-per-group, group-names}
-use Rattle.semantics.specs.Commands.{held}
+use Rattle.semantics.specs.Ranges.{held}
 use Rattle.published.specs.Published.{Set, _∖_, any, Namespace, SGroup, Node, Published, those, IsSGroupNode}
 use Rattle.published.specs.Seen.{names-seen, count}
 

@@ -10,22 +10,23 @@ use Rattle.nodes.specs.Sets.{node-limit, has}
 use Rattle.entries.specs.Entries.{host, lookup}
 use Rattle.semantics.specs.Sizes.{names-per-group}
 use Rattle.semantics.specs.State.{Group, State, find}
-use Rattle.semantics.specs.Commands.{answer-of, whereis-name-at, send-at, send-name}
+use Rattle.commands.specs.declared.Command.the-variants.{WhereisNameAt, SendAt, SendName}
+use Rattle.answers.specs.Answers.{answer-of}
 use Rattle.semantics.specs.Steps.{connect, pid-or-undefined, Looked, looked, nothing-found, look-in, ask, send-on}
 use Rattle.semantics.specs.Test.{sound}
 use Rattle.semantics.specs.Regular.{Regular}
-use Rattle.semantics.specs.Names.{host-found}
+use Rattle.semantics.specs.NamesKept.{host-found}
 use Rattle.semantics.specs.Changed.{regular-found}
-use Rattle.semantics.specs.Laid.{Laid}
-use Rattle.semantics.specs.declared.Reason.{Reason}
-use Rattle.semantics.specs.declared.Reason.the-variants.{Done, NotRegistered, NotMember}
-use Rattle.lookup.specs.declared.Lookup.{Lookup}
-use Rattle.lookup.specs.declared.Lookup.the-variants.{Found}
-use Rattle.judge.specs.Judge.{name-reason, asking-reason}
-use Rattle.lookup.specs.Looked.{looked-up}
+use Rattle.semantics.specs.WordsOfState.{Laid}
+use Rattle.answers.specs.declared.Reason.{Reason}
+use Rattle.answers.specs.declared.Reason.the-variants.{Done, NotRegistered, NotMember}
+use Rattle.names.specs.declared.Lookup.{Lookup}
+use Rattle.names.specs.declared.Lookup.the-variants.{Found}
+use Rattle.inputs.specs.Judge.{name-reason, asking-reason}
+use Rattle.names.specs.Looked.{looked-up}
 use Rattle.place.specs.Sound.{here, regular}
-use Rattle.steps.specs.Judged.{passed, step-whereis-at, step-send-at, step-send-name}
-use Rattle.steps.specs.Calls.{Says, says}
+use Rattle.returns.specs.Judged.{passed, step-whereis-at, step-send-at, step-send-name}
+use Rattle.returns.specs.Shown.{Says, says}
 
 -- a pid that is found has its host on the roster
 pub host-asked : {cap : ℕ} {st : State} → Regular cap st → (j s n p : ℕ) → ask j s n st .found ≡ some p → host p < st .size
@@ -52,22 +53,22 @@ module _ (t : List ℕ) (ok : sound names-per-group t ≡ true) where
 module _ (t : List ℕ) (ok : sound names-per-group t ≡ true) (i : ℕ) where
   module _ (j s n : ℕ) {q : Reason} (e : q ≡ asking-reason (here t .size) i j s n) (h : q ≡ Done) (x : Lookup) (f : looked-up x ≡ ask j s n (here t)) (u : List ℕ) where
     pub whereis-told : Laid names-per-group (connect i j (here t)) u
-        → Says 0 i (whereis-name-at j s n) t (answer-of (pid-or-undefined (looked-up x .found)) (looked-up x .reason)) u
+        → Says 0 i (WhereisNameAt j s n) t (answer-of (pid-or-undefined (looked-up x .found)) (looked-up x .reason)) u
     whereis-told l =
-        subst (λ (y : Looked). Says 0 i (whereis-name-at j s n) t (answer-of (pid-or-undefined (y .found)) (y .reason)) u) (sym f)
+        subst (λ (y : Looked). Says 0 i (WhereisNameAt j s n) t (answer-of (pid-or-undefined (y .found)) (y .reason)) u) (sym f)
         (says t ok (passed (step-whereis-at 0 i (here t) j s n) e h) u l)
 
     pub send-at-told : Laid names-per-group (send-on i (looked-up x .found) (connect i j (here t))) u
-        → Says 0 i (send-at j s n) t (answer-of (pid-or-undefined (looked-up x .found)) (looked-up x .reason)) u
+        → Says 0 i (SendAt j s n) t (answer-of (pid-or-undefined (looked-up x .found)) (looked-up x .reason)) u
     send-at-told =
         subst (λ (y : Looked). Laid names-per-group (send-on i (y .found) (connect i j (here t))) u
-        → Says 0 i (send-at j s n) t (answer-of (pid-or-undefined (y .found)) (y .reason)) u) (sym f)
+        → Says 0 i (SendAt j s n) t (answer-of (pid-or-undefined (y .found)) (y .reason)) u) (sym f)
         (says t ok (passed (step-send-at 0 i (here t) j s n) e h) u)
 
   module _ (s n : ℕ) {q : Reason} (e : q ≡ name-reason (here t .size) i s n) (h : q ≡ Done) (x : Lookup) (f : looked-up x ≡ ask i s n (here t)) (u : List ℕ) where
     pub send-name-told : Laid names-per-group (send-on i (looked-up x .found) (here t)) u
-        → Says 0 i (send-name s n) t (answer-of (pid-or-undefined (looked-up x .found)) (looked-up x .reason)) u
+        → Says 0 i (SendName s n) t (answer-of (pid-or-undefined (looked-up x .found)) (looked-up x .reason)) u
     send-name-told =
         subst (λ (y : Looked). Laid names-per-group (send-on i (y .found) (here t)) u
-        → Says 0 i (send-name s n) t (answer-of (pid-or-undefined (y .found)) (y .reason)) u) (sym f)
+        → Says 0 i (SendName s n) t (answer-of (pid-or-undefined (y .found)) (y .reason)) u) (sym f)
         (says t ok (passed (step-send-name 0 i (here t) s n) e h) u)

@@ -1,21 +1,21 @@
 // The steps of the lookup by another node and of the sends, on a sound table. The connection that a lookup or a send asks for is made once its
 // arguments pass, whether a pid is found or not.
+use answers::Answer;
+use answers::Reason;
+use answers::Value;
+use connecting::connect;
 use entries::PIDS_PER_HOST;
-use judge::asking_reason;
-use judge::host_reason;
-use judge::name_reason;
+use inputs::asking_reason;
+use inputs::host_reason;
+use inputs::name_reason;
 use layout::SIZE_AT;
-use lookup::Lookup;
-use lookup::look;
-use semantics::Answer;
-use semantics::Reason;
-use semantics::Value;
-use wires::connect;
+use names::Lookup;
+use names::look;
 ghost use mathlib.Core.Path.{_≡_};
 ghost use mathlib.Core.Bool.{true};
 ghost use lib.ListN.{length};
 ghost use Rattle.semantics.specs.Sizes.{names-per-group, table-words};
-ghost use Rattle.semantics.specs.Commands.{whereis-name-at, send, send-name, send-at};
+ghost use Rattle.commands.specs.declared.Command.the-variants.{WhereisNameAt, Send, SendName, SendAt};
 ghost use Rattle.semantics.specs.Test.{sound};
 ghost use Rattle.semantics.specs.Call.{call};
 
@@ -23,8 +23,8 @@ ghost use Rattle.semantics.specs.Call.{call};
 pub fn whereis_name_at(t: &mut [u64], caller: u32, node: u32, s: u32, n: u32) -> Answer
     requires { ⌜ length (now t) ≡ table-words names-per-group ⌝ }
     requires { ⌜ sound names-per-group (now t) ≡ true ⌝ }
-    ensures { λ r. ⌜ r ≡ call 0 caller (whereis-name-at node s n) (now (t .entry)) .answer ⌝ }
-    ensures { λ _. ⌜ now (t .exit) ≡ call 0 caller (whereis-name-at node s n) (now (t .entry)) .table ⌝ }
+    ensures { λ r. ⌜ r ≡ call 0 caller (WhereisNameAt node s n) (now (t .entry)) .answer ⌝ }
+    ensures { λ _. ⌜ now (t .exit) ≡ call 0 caller (WhereisNameAt node s n) (now (t .entry)) .table ⌝ }
 {
     let reason = asking_reason(t[SIZE_AT] as u32, caller, node, s, n);
     let Reason::Done = reason else {
@@ -51,8 +51,8 @@ pub fn whereis_name_at(t: &mut [u64], caller: u32, node: u32, s: u32, n: u32) ->
 pub fn send(t: &mut [u64], caller: u32, p: u32) -> Answer
     requires { ⌜ length (now t) ≡ table-words names-per-group ⌝ }
     requires { ⌜ sound names-per-group (now t) ≡ true ⌝ }
-    ensures { λ r. ⌜ r ≡ call 0 caller (send p) (now (t .entry)) .answer ⌝ }
-    ensures { λ _. ⌜ now (t .exit) ≡ call 0 caller (send p) (now (t .entry)) .table ⌝ }
+    ensures { λ r. ⌜ r ≡ call 0 caller (Send p) (now (t .entry)) .answer ⌝ }
+    ensures { λ _. ⌜ now (t .exit) ≡ call 0 caller (Send p) (now (t .entry)) .table ⌝ }
 {
     let reason = host_reason(t[SIZE_AT] as u32, caller, p);
     let Reason::Done = reason else {
@@ -72,8 +72,8 @@ pub fn send(t: &mut [u64], caller: u32, p: u32) -> Answer
 pub fn send_name(t: &mut [u64], caller: u32, s: u32, n: u32) -> Answer
     requires { ⌜ length (now t) ≡ table-words names-per-group ⌝ }
     requires { ⌜ sound names-per-group (now t) ≡ true ⌝ }
-    ensures { λ r. ⌜ r ≡ call 0 caller (send-name s n) (now (t .entry)) .answer ⌝ }
-    ensures { λ _. ⌜ now (t .exit) ≡ call 0 caller (send-name s n) (now (t .entry)) .table ⌝ }
+    ensures { λ r. ⌜ r ≡ call 0 caller (SendName s n) (now (t .entry)) .answer ⌝ }
+    ensures { λ _. ⌜ now (t .exit) ≡ call 0 caller (SendName s n) (now (t .entry)) .table ⌝ }
 {
     let reason = name_reason(t[SIZE_AT] as u32, caller, s, n);
     let Reason::Done = reason else {
@@ -101,8 +101,8 @@ pub fn send_name(t: &mut [u64], caller: u32, s: u32, n: u32) -> Answer
 pub fn send_at(t: &mut [u64], caller: u32, node: u32, s: u32, n: u32) -> Answer
     requires { ⌜ length (now t) ≡ table-words names-per-group ⌝ }
     requires { ⌜ sound names-per-group (now t) ≡ true ⌝ }
-    ensures { λ r. ⌜ r ≡ call 0 caller (send-at node s n) (now (t .entry)) .answer ⌝ }
-    ensures { λ _. ⌜ now (t .exit) ≡ call 0 caller (send-at node s n) (now (t .entry)) .table ⌝ }
+    ensures { λ r. ⌜ r ≡ call 0 caller (SendAt node s n) (now (t .entry)) .answer ⌝ }
+    ensures { λ _. ⌜ now (t .exit) ≡ call 0 caller (SendAt node s n) (now (t .entry)) .table ⌝ }
 {
     let reason = asking_reason(t[SIZE_AT] as u32, caller, node, s, n);
     let Reason::Done = reason else {

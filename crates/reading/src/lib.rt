@@ -1,32 +1,33 @@
 // The steps of registered_names and whereis_name.
+use answers::Answer;
+use answers::Reason;
+use answers::Value;
 use entries::Counted;
-use judge::group_reason;
-use judge::name_reason;
+use inputs::group_reason;
+use inputs::name_reason;
 use layout::BODIES_AT;
 use layout::NAMES_PER_GROUP;
 use layout::SIZE_AT;
-use lookup::Lookup;
-use lookup::look;
+use names::Lookup;
+use names::look;
 use names::names_count;
 use place::Access;
 use place::place_for;
-use semantics::Answer;
-use semantics::Reason;
-use semantics::Value;
 ghost use mathlib.Core.Path.{_≡_};
 ghost use mathlib.Core.Bool.{true};
 ghost use Prim.Native.Nat.{_<_};
 ghost use lib.ListN.{length};
 ghost use Rattle.semantics.specs.Sizes.{group-limit, names-per-group, table-words};
 ghost use Rattle.semantics.specs.State.{State};
-ghost use Rattle.semantics.specs.Commands.{within, registered-names, whereis-name};
+ghost use Rattle.commands.specs.declared.Command.the-variants.{Within};
+ghost use Rattle.commands.specs.declared.GroupCommand.the-variants.{RegisteredNames, WhereisName};
 ghost use Rattle.semantics.specs.Test.{sound};
 ghost use Rattle.semantics.specs.Call.{call, listed-over};
 ghost use Rattle.semantics.specs.Places.{group-at};
-ghost use Rattle.semantics.specs.Laid.{Laid};
-ghost use Rattle.steps.specs.Judged.{names-in};
-ghost use Rattle.names.specs.Names.{Standing};
-ghost use Rattle.steps.specs.Listing.{Told};
+ghost use Rattle.semantics.specs.WordsOfState.{Laid};
+ghost use Rattle.returns.specs.Judged.{names-in};
+ghost use Rattle.names.specs.NamesAt.{Standing};
+ghost use Rattle.returns.specs.Listing.{Told};
 
 // The names of the s_group `s`, which stands at `at`, in the run, where it has room.
 fn list_names(t: &[u64], at: usize, s: u32, out: &mut [u64]) -> Answer
@@ -53,8 +54,8 @@ fn list_names(t: &[u64], at: usize, s: u32, out: &mut [u64]) -> Answer
 pub fn registered_names(t: &[u64], caller: u32, s: u32, out: &mut [u64]) -> Answer
     requires { ⌜ length (now t) ≡ table-words names-per-group ⌝ }
     requires { ⌜ sound names-per-group (now t) ≡ true ⌝ }
-    ensures { λ r. ⌜ r ≡ call (length (now (out .entry))) caller (within (registered-names s)) (now (t .entry)) .answer ⌝ }
-    ensures { λ _. ⌜ now (out .exit) ≡ listed-over (call (length (now (out .entry))) caller (within (registered-names s)) (now (t .entry)) .list) (now (out .entry)) ⌝ }
+    ensures { λ r. ⌜ r ≡ call (length (now (out .entry))) caller (Within (RegisteredNames s)) (now (t .entry)) .answer ⌝ }
+    ensures { λ _. ⌜ now (out .exit) ≡ listed-over (call (length (now (out .entry))) caller (Within (RegisteredNames s)) (now (t .entry)) .list) (now (out .entry)) ⌝ }
 {
     let size = t[SIZE_AT] as u32;
     let r = group_reason(size, caller, s);
@@ -77,7 +78,7 @@ pub fn registered_names(t: &[u64], caller: u32, s: u32, out: &mut [u64]) -> Answ
 pub fn whereis_name(t: &[u64], caller: u32, s: u32, n: u32) -> Answer
     requires { ⌜ length (now t) ≡ table-words names-per-group ⌝ }
     requires { ⌜ sound names-per-group (now t) ≡ true ⌝ }
-    ensures { λ r. ⌜ r ≡ call 0 caller (within (whereis-name s n)) (now (t .entry)) .answer ⌝ }
+    ensures { λ r. ⌜ r ≡ call 0 caller (Within (WhereisName s n)) (now (t .entry)) .answer ⌝ }
 {
     let size = t[SIZE_AT] as u32;
     let r = name_reason(size, caller, s, n);

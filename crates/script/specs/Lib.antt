@@ -1,4 +1,4 @@
 pub mod Scripts
-pub mod Lines
+pub mod FirstLines
 pub mod Whole
 pub mod Sample

@@ -5,11 +5,11 @@ use Prim.Native.Nat.{ℕ}
 use lib.ListN.{replicate}
 use Rattle.semantics.specs.Sizes.{names-per-group, table-words}
 use Rattle.semantics.specs.Compute.{computing}
-use Rattle.fields.specs.Text.{bytes, fields}
-use Rattle.numeral.specs.Numbers.{all-digits, plain, value, is-numeral, numeral}
-use Rattle.words.specs.Commands.{forms, number-from, number-of, form-from, form-of, command-of, takes-set}
+use Rattle.text.specs.Text.{bytes, fields}
+use Rattle.text.specs.Numbers.{all-digits, plain, value, is-numeral, numeral}
+use Rattle.forms.specs.Forms.{forms, number-from, number-of, form-from, form-of, command-of, takes-set}
 use Rattle.line.specs.Requests.{number-in, open-line, command-by, numbered-line, command-line, request-in, request-of}
-use Rattle.print.specs.Lines.{decimal-in, decimal, spaced, answer-line}
+use Rattle.print.specs.Printed.{decimal-in, decimal, spaced, answer-line}
 use Rattle.turns.specs.Turns.{request-turn}
 use Rattle.script.specs.Scripts.{lines-of, lines-from, line-turn, printed}
 

@@ -4,10 +4,10 @@ use mathlib.Core.List.{List, [], _∷_, _++_}
 use Prim.Native.Nat.{ℕ, _+_, _*_}
 use lib.Dec.{eqb, leb}
 use lib.ListN.{length, drop}
-use Rattle.fields.specs.Text.{newline}
+use Rattle.text.specs.Text.{newline}
 use Rattle.line.specs.Requests.{request-of}
 use Rattle.print.specs.Sheets.{Sheet, put}
-use Rattle.print.specs.Lines.{bad-line, too-long}
+use Rattle.print.specs.Printed.{bad-line, too-long}
 use Rattle.turns.specs.Turns.{list-room, Turn, says, request-turn}
 
 -- a script has at most so many bytes

@@ -11,18 +11,18 @@ use lib.ListN.{length, take, drop}
 use lib.Seq.{length-take-le}
 use Rattle.nodes.specs.Bools.{by-lt}
 use Rattle.semantics.specs.Call.{call, opening}
-use Rattle.words.specs.Commands.{command-of}
+use Rattle.forms.specs.Forms.{command-of}
 use Rattle.line.specs.declared.Request.{Request}
 use Rattle.line.specs.declared.Request.the-variants.{Open, Command, Unfit}
 use Rattle.line.specs.Requests.{request-of}
-use Rattle.fields.specs.Parts.{part-rest}
+use Rattle.text.specs.FieldLaws.{part-rest}
 use Rattle.print.specs.Sheets.{Sheet, sheet, put}
 use Rattle.print.specs.Putting.{put-front, put-within}
 use Rattle.print.specs.Decimals.{answer-few}
 use Rattle.turns.specs.Turns.{list-room, request-turn}
 use Rattle.script.specs.Scripts.{script-limit, line-room, Line, ended, cut, overlong, lines-from, size-of, line-turn, printed, left, Stop, stop, runs}
 use Rattle.turns.specs.Lists.{call-fits, opening-bare}
-use Rattle.script.specs.Lines.{first-of, line-at, lines-next, size-at, lines-over, line-first, asks, turn-first}
+use Rattle.script.specs.FirstLines.{first-of, line-at, lines-next, size-at, lines-over, line-first, asks, turn-first}
 
 -- ---- no line prints more than there is room for
 

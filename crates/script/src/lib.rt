@@ -5,7 +5,7 @@ ghost use Prim.Native.Nat.{ℕ, _<_};
 ghost use lib.ListN.{length};
 ghost use Rattle.print.specs.Sheets.{sheet};
 ghost use Rattle.script.specs.Scripts.{script-limit, lines-from, size-of, stop, runs};
-ghost use Rattle.script.specs.Lines.{first-of, asks};
+ghost use Rattle.script.specs.FirstLines.{first-of, asks};
 use line::Request;
 
 // The run for a list has so many words.
@@ -33,7 +33,7 @@ struct Head {
 fn first(s: &[u8]) -> Head
     ensures { λ h. ⌜ (h .size ≡ size-of (first-of (now (s .entry)))) × (h .request ≡ asks (first-of (now (s .entry)))) ⌝ }
 {
-    let e = fields::find(s, b'\n');
+    let e = text::find(s, b'\n');
     if e < s.len() {
         let request = line::request_of(&s[..e]);
         return Head {

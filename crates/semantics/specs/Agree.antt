@@ -14,8 +14,8 @@ use Rattle.semantics.specs.Table.{layout, state-of}
 use Rattle.semantics.specs.Test.{same, sound}
 use Rattle.semantics.specs.Soundness.{Sound}
 use Rattle.semantics.specs.Regular.{Regular}
-use Rattle.semantics.specs.Laid.{Laid, laid, words-of}
-use Rattle.semantics.specs.Trip.{sized, round-trip, length-layout}
+use Rattle.semantics.specs.WordsOfState.{Laid, laid, words-of}
+use Rattle.semantics.specs.RoundTrip.{sized, round-trip, length-layout}
 use Rattle.semantics.specs.TestLaws.{same-iff, _also_}
 use Rattle.semantics.specs.StateTest.{state-iff}
 use Rattle.semantics.specs.WordByWord.{reads}

@@ -6,14 +6,15 @@ use lib.Dec.{eqb, ltb}
 use lib.ListN.{length, drop}
 use Rattle.nodes.specs.Sets.{node-limit, beyond}
 use Rattle.semantics.specs.Sizes.{names-per-group, table-words}
-use Rattle.semantics.specs.Commands.{Command, answer-of}
+use Rattle.commands.specs.declared.Command.{Command}
+use Rattle.answers.specs.Answers.{answer-of}
 use Rattle.semantics.specs.Steps.{Result, step, opened}
 use Rattle.semantics.specs.Table.{layout, state-of}
 use Rattle.semantics.specs.Test.{sound}
-use Rattle.semantics.specs.declared.Answer.{Answer}
-use Rattle.semantics.specs.declared.Value.the-variants.{Ok, Error}
-use Rattle.semantics.specs.declared.Reason.{Reason}
-use Rattle.semantics.specs.declared.Reason.the-variants.{Done, TableLength, RosterSize, Unsound, NodeUnknown}
+use Rattle.answers.specs.declared.Answer.{Answer}
+use Rattle.answers.specs.declared.Value.the-variants.{Ok, Error}
+use Rattle.answers.specs.declared.Reason.{Reason}
+use Rattle.answers.specs.declared.Reason.the-variants.{Done, TableLength, RosterSize, Unsound, NodeUnknown}
 
 -- the answer, the words of its list, and the table after it
 pub record Call : Type 0 where

@@ -11,10 +11,11 @@ use lib.ListN.{length}
 use borrow.Author.Tests.{eq-eqb, eqb-false, ltb-false, leb-false}
 use Rattle.nodes.specs.Sets.{node-limit, beyond}
 use Rattle.nodes.specs.Bools.{by-test}
-use Rattle.semantics.specs.Answers.{kind}
+use Rattle.answers.specs.Answers.{kind}
 use Rattle.semantics.specs.Sizes.{names-per-group, table-words}
 use Rattle.semantics.specs.State.{State}
-use Rattle.semantics.specs.Commands.{Command, answer-of}
+use Rattle.commands.specs.declared.Command.{Command}
+use Rattle.answers.specs.Answers.{answer-of}
 use Rattle.semantics.specs.Steps.{step, opened}
 use Rattle.semantics.specs.Table.{layout, state-of}
 use Rattle.semantics.specs.Soundness.{Sound}
@@ -22,15 +23,15 @@ use Rattle.semantics.specs.Test.{sound}
 use Rattle.semantics.specs.Call.{Call, refused, written, call, opening}
 use Rattle.semantics.specs.Regular.{Regular}
 use Rattle.semantics.specs.Fits.{Fits}
-use Rattle.semantics.specs.Keeps.{keeps}
-use Rattle.semantics.specs.Opened.{opened-regular}
+use Rattle.semantics.specs.StepsKeep.{keeps}
+use Rattle.semantics.specs.OpenedRegular.{opened-regular}
 use Rattle.semantics.specs.Truth.{neither}
-use Rattle.semantics.specs.Trip.{round-trip}
+use Rattle.semantics.specs.RoundTrip.{round-trip}
 use Rattle.semantics.specs.Agree.{test-regular, regular-test, sound-iff}
-use Rattle.semantics.specs.declared.Answer.{Answer}
-use Rattle.semantics.specs.declared.Value.the-variants.{Ok, Error}
-use Rattle.semantics.specs.declared.Reason.{Reason}
-use Rattle.semantics.specs.declared.Reason.the-variants.{Done, TableLength, RosterSize, Unsound, NodeUnknown}
+use Rattle.answers.specs.declared.Answer.{Answer}
+use Rattle.answers.specs.declared.Value.the-variants.{Ok, Error}
+use Rattle.answers.specs.declared.Reason.{Reason}
+use Rattle.answers.specs.declared.Reason.the-variants.{Done, TableLength, RosterSize, Unsound, NodeUnknown}
 
 -- on a table that passes, a call is the step of its state
 pub call-sound : (room i : ℕ) (c : Command) (t : List ℕ) → sound names-per-group t ≡ true → call room i c t ≡ written (step room i c (state-of names-per-group t))

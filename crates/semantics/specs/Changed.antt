@@ -8,9 +8,9 @@ use Prim.Native.Nat.{ℕ, _^_, _≤_, _<_}
 use native.Mathlib.Omega.{arith}
 use lib.ListN.{length}
 use Rattle.nodes.specs.Sets.{node-limit, has, roster, union, diff}
-use Rattle.nodes.specs.Laws.{has-union, has-ext, union-lt, subset-union, subset-le}
+use Rattle.nodes.specs.SetLaws.{has-union, has-ext, union-lt, subset-union, subset-le}
 use Rattle.entries.specs.Entries.{Entry}
-use Rattle.entries.specs.Soundness as Namespace
+use Rattle.entries.specs.NamespaceSound as Namespace
 use Rattle.semantics.specs.Sizes.{group-limit, group-names}
 use Rattle.semantics.specs.State.{Group, State, with-groups, with-links, with-free, find, put, add-group, drop-group, all-members}
 use Rattle.semantics.specs.Steps.{hold, join, create, interconnect, leave-free, apply}
@@ -19,7 +19,7 @@ use Rattle.semantics.specs.Truth.{or-cases}
 use Rattle.semantics.specs.Members.{in-word, length-interconnect, length-leave-free, linked-still, linked-now, linked-within}
 use Rattle.semantics.specs.Wires.{wired-same, wired-meet-leave}
 use Rattle.semantics.specs.Groups.{Found, found, found-name, of-found, every-map, every-put, every-add, rising-put, rising-add, length-put, length-add-group, all-add, all-found, all-put, in-all}
-use Rattle.semantics.specs.Loose.{loose-in-none, loose-fewer}
+use Rattle.semantics.specs.FreeGroupsOfNodes.{loose-in-none, loose-fewer}
 
 -- the nodes of m meet, and s_groups and free groups are others
 pub regular-rewired : {cap : ℕ} {st : State} → Regular cap st → (m : ℕ) (gs : List Group) (free : List ℕ) → m < 2 ^ (st .size)

@@ -8,7 +8,7 @@ use lib.Dec.{eqb}
 use lib.ListN.{length, getD, List·getD-eq-default}
 use borrow.Author.Tests.{eq-eqb, ne-eqb}
 use Rattle.nodes.specs.Sets.{node-limit, has}
-use Rattle.nodes.specs.Laws.{has-none, has-below, has-ext}
+use Rattle.nodes.specs.SetLaws.{has-none, has-below, has-ext}
 use Rattle.entries.specs.Entries.{word-of}
 use Rattle.semantics.specs.Sizes.{table-words}
 use Rattle.semantics.specs.State.{Group, State}
@@ -18,9 +18,9 @@ use Rattle.semantics.specs.Regular.{Regular, Regular-group, loose}
 use Rattle.semantics.specs.Truth.{unless}
 use Rattle.semantics.specs.Places.{group-at, every-iff, rising-iff}
 use Rattle.semantics.specs.EntryPlaces.{no-entry, entry-at, climbing-iff, distinct-iff, hosted-iff}
-use Rattle.semantics.specs.Loose.{loose-on-roster, loose-in}
+use Rattle.semantics.specs.FreeGroupsOfNodes.{loose-on-roster, loose-in}
 use Rattle.semantics.specs.WordByWord.{Reads}
-use Rattle.semantics.specs.Meaning.{Means, in-same, in-state, past-groups, free-normal-iff, counted-regular, regular-means}
+use Rattle.semantics.specs.WordsMeaning.{Means, in-same, in-state, past-groups, free-normal-iff, counted-regular, regular-means}
 
 module _ {cap : ℕ} {st : State} {t : List ℕ} (long : length t ≡ table-words cap) (r : Regular cap st) (w : Reads cap st t) where
   m : Means cap st t

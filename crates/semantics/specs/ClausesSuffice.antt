@@ -10,7 +10,7 @@ use lib.ListN.{length, getD, List·getD-eq-default}
 use borrow.Author.Tests.{eq-eqb, ne-eqb}
 use Rattle.nodes.specs.Sets.{node-limit, has}
 use Rattle.nodes.specs.Bools.{by-lt, by-eq, by-test, test-ext}
-use Rattle.nodes.specs.Laws.{has-none, below-pow}
+use Rattle.nodes.specs.SetLaws.{has-none, below-pow}
 use Rattle.entries.specs.Entries.{word-of}
 use Rattle.semantics.specs.Sizes.{group-limit}
 use Rattle.semantics.specs.State.{Group, State}
@@ -22,9 +22,9 @@ use Rattle.semantics.specs.Places.{group-at, every-iff, rising-iff}
 use Rattle.semantics.specs.EntryPlaces.{no-entry, entry-at, climbing-iff, distinct-iff, hosted-iff}
 use Rattle.semantics.specs.TestLaws.{_also_}
 use Rattle.semantics.specs.StateTest.{has-place}
-use Rattle.semantics.specs.Laid.{Sized, Laid}
+use Rattle.semantics.specs.WordsOfState.{Sized, Laid}
 use Rattle.semantics.specs.WordByWord.{Reads, reads-laid}
-use Rattle.semantics.specs.Meaning.{Means, in-same, in-words, past-groups, free-normal-iff}
+use Rattle.semantics.specs.WordsMeaning.{Means, in-same, in-words, past-groups, free-normal-iff}
 use Rattle.semantics.specs.ReadOff.{state-sized, state-means}
 
 module _ {cap : ℕ} {st : State} {t : List ℕ} (s : Sound cap t) (m : Means cap st t) where

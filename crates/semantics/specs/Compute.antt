@@ -2,7 +2,7 @@
 use lib.Count.{ones, onesIn}
 use Rattle.nodes.specs.Sets.{union, inter, diff, union-all}
 use Rattle.entries.specs.Entries.{insert, remove, lookup, holds-pid, words, entries}
-use Rattle.entries.specs.Soundness.{is-ascending, is-distinct, is-hosted, sound-entries}
+use Rattle.entries.specs.NamespaceSound.{is-ascending, is-distinct, is-hosted, sound-entries}
 use Rattle.semantics.specs.State.{find, put, add-group, drop-group}
 use Rattle.semantics.specs.Steps.{interconnect, leave-free, one-free-group, connect, become-free, inside, outcome, apply, group-step, rule, step, opened}
 use Rattle.semantics.specs.Table.{sections, layout, state-of}

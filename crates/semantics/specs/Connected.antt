@@ -9,7 +9,7 @@ use lib.Pow.{pow-lt}
 use lib.ListN.{length, getD}
 use borrow.Author.Tests.{eqb-true}
 use Rattle.nodes.specs.Sets.{node-limit, has, empty, single, union}
-use Rattle.nodes.specs.Laws.{has-union, has-single, union-lt}
+use Rattle.nodes.specs.SetLaws.{has-union, has-single, union-lt}
 use Rattle.semantics.specs.State.{State, free-of}
 use Rattle.semantics.specs.Steps.{interconnect, link, merge, connect}
 use Rattle.semantics.specs.Regular.{Met, Wired, Regular, loose}
@@ -18,7 +18,7 @@ use Rattle.semantics.specs.Members.{in-word, length-one-free-group}
 use Rattle.semantics.specs.Groups.{every-map}
 use Rattle.semantics.specs.Wires.{wired-meet}
 use Rattle.semantics.specs.Merged.{wired-merge}
-use Rattle.semantics.specs.Loose.{loose-in, not-loose, free-lt, spread}
+use Rattle.semantics.specs.FreeGroupsOfNodes.{loose-in, not-loose, free-lt, spread}
 use Rattle.semantics.specs.Changed.{regular-rewired, met-still}
 
 module _ {cap : ℕ} {st : State} (w : Regular cap st) where

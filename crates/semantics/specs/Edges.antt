@@ -10,7 +10,10 @@ use Rattle.nodes.specs.Sets.{node-limit}
 use Rattle.entries.specs.Entries.{Entry}
 use Rattle.semantics.specs.Sizes.{group-limit, names-per-group, group-names, table-words}
 use Rattle.semantics.specs.State.{Group}
-use Rattle.semantics.specs.Commands.{Command, register-name, re-register-name, whereis-name, registered-names, new-s-group, within, whereis-name-at, remove-nodes, delete-s-group, own-nodes, own-s-groups, answer-of}
+use Rattle.commands.specs.declared.Command.{Command}
+use Rattle.commands.specs.declared.Command.the-variants.{Within, WhereisNameAt, RemoveNodes, DeleteSGroup, OwnNodes, OwnSGroups}
+use Rattle.commands.specs.declared.GroupCommand.the-variants.{RegisterName, ReRegisterName, WhereisName, RegisteredNames, NewSGroup}
+use Rattle.answers.specs.Answers.{answer-of}
 use Rattle.semantics.specs.Steps.{name-words}
 use Rattle.semantics.specs.Table.{pad, layout}
 use Rattle.semantics.specs.Test.{sound}
@@ -18,10 +21,10 @@ use Rattle.semantics.specs.Call.{refused, call, opening}
 use Rattle.semantics.specs.Lines.{Said, said-by-call}
 use Rattle.semantics.specs.Marked.{_says_, calls, run, claim}
 use Rattle.semantics.specs.Compute.{computing}
-use Rattle.semantics.specs.declared.Value.{Value}
-use Rattle.semantics.specs.declared.Value.the-variants.{Ok, True, False, Undefined, Pid, Grouped, Nodes, Listed}
-use Rattle.semantics.specs.declared.Reason.{Reason}
-use Rattle.semantics.specs.declared.Reason.the-variants.{Done, TableLength, RosterSize, Unsound, GroupNameRange, NodeUnknown, NotMember, PidTaken, NotRegistered, NamespaceFull, GroupsFull, RunShort}
+use Rattle.answers.specs.declared.Value.{Value}
+use Rattle.answers.specs.declared.Value.the-variants.{Ok, True, False, Undefined, Pid, Grouped, Nodes, Listed}
+use Rattle.answers.specs.declared.Reason.{Reason}
+use Rattle.answers.specs.declared.Reason.the-variants.{Done, TableLength, RosterSize, Unsound, GroupNameRange, NodeUnknown, NotMember, PidTaken, NotRegistered, NamespaceFull, GroupsFull, RunShort}
 
 -- ---- tables and answers
 
@@ -43,8 +46,8 @@ list-of ws = record { answer = answer-of (Listed (length ws)) Done; list = ws }
 
 -- ---- the sample script
 
-pub sample : map said-by-call (run 4 8 blank (0 says within (new-s-group 5 3) ∷ 0 says within (register-name 5 70 67108865) ∷ 1 says within (whereis-name 5 70)
-    ∷ 2 says within (whereis-name 5 70) ∷ 1 says within (whereis-name 5 71) ∷ 0 says own-nodes ∷ []))
+pub sample : map said-by-call (run 4 8 blank (0 says Within (NewSGroup 5 3) ∷ 0 says Within (RegisterName 5 70 67108865) ∷ 1 says Within (WhereisName 5 70)
+    ∷ 2 says Within (WhereisName 5 70) ∷ 1 says Within (WhereisName 5 71) ∷ 0 says OwnNodes ∷ []))
     ≡ told Ok Done ∷ told (Grouped 5 3) Done ∷ told True Done ∷ told (Pid 67108865) Done
     ∷ told Undefined NotMember ∷ told Undefined NotRegistered ∷ told (Nodes 3 2) Done ∷ []
 unfolding computing run calls
@@ -66,43 +69,43 @@ abbrev pub most : List Entry
 most = numbered 1 names-per-group
 
 -- the last name that fits goes in
-pub last-name-fits : call 0 0 (within (register-name 5 names-per-group names-per-group)) (holding (numbered 1 (names-per-group - 1))) ≡ claim True Done (holding most)
+pub last-name-fits : call 0 0 (Within (RegisterName 5 names-per-group names-per-group)) (holding (numbered 1 (names-per-group - 1))) ≡ claim True Done (holding most)
 unfolding computing
 last-name-fits = refl
 
 -- one more does not
-pub one-more-refused : call 0 0 (within (register-name 5 (names-per-group + 1) (names-per-group + 1))) (holding most) ≡ claim False NamespaceFull (holding most)
+pub one-more-refused : call 0 0 (Within (RegisterName 5 (names-per-group + 1) (names-per-group + 1))) (holding most) ≡ claim False NamespaceFull (holding most)
 unfolding computing
 one-more-refused = refl
 
 -- a held name goes to a new pid
-pub held-name-renewed : call 0 1 (within (re-register-name 5 1 0)) (holding most)
+pub held-name-renewed : call 0 1 (Within (ReRegisterName 5 1 0)) (holding most)
     ≡ claim True Done (holding (record { name = 1; pid = 0 } ∷ numbered 2 (names-per-group - 1)))
 unfolding computing
 held-name-renewed = refl
 
 -- a new name is refused there too
-pub new-name-refused : call 0 1 (within (re-register-name 5 (names-per-group + 1) 0)) (holding most) ≡ claim False NamespaceFull (holding most)
+pub new-name-refused : call 0 1 (Within (ReRegisterName 5 (names-per-group + 1) 0)) (holding most) ≡ claim False NamespaceFull (holding most)
 unfolding computing
 new-name-refused = refl
 
 -- a new name with a held pid: 11 and not 13
-pub held-pid-first : (call 0 0 (within (register-name 5 (names-per-group + 1) 1)) (holding most) ≡ claim False PidTaken (holding most))
-    × (call 0 0 (within (re-register-name 5 (names-per-group + 1) 1)) (holding most) ≡ claim False PidTaken (holding most))
+pub held-pid-first : (call 0 0 (Within (RegisterName 5 (names-per-group + 1) 1)) (holding most) ≡ claim False PidTaken (holding most))
+    × (call 0 0 (Within (ReRegisterName 5 (names-per-group + 1) 1)) (holding most) ≡ claim False PidTaken (holding most))
 unfolding computing
 held-pid-first = (refl, refl)
 
 -- ---- room for a list
 
 -- one word short: 17
-pub room-short : (call (names-per-group - 1) 0 (within (registered-names 5)) (holding most) ≡ refused RunShort (holding most))
-    × (call 1 0 own-s-groups (holding []) ≡ refused RunShort (holding []))
+pub room-short : (call (names-per-group - 1) 0 (Within (RegisteredNames 5)) (holding most) ≡ refused RunShort (holding most))
+    × (call 1 0 OwnSGroups (holding []) ≡ refused RunShort (holding []))
 unfolding computing
 room-short = (refl, refl)
 
 -- as many words as the list has
-pub room-enough : (said-by-call (call names-per-group 0 (within (registered-names 5)) (holding most)) ≡ list-of (name-words 5 most))
-    × (said-by-call (call 2 0 own-s-groups (holding [])) ≡ list-of (5 ∷ 3 ∷ []))
+pub room-enough : (said-by-call (call names-per-group 0 (Within (RegisteredNames 5)) (holding most)) ≡ list-of (name-words 5 most))
+    × (said-by-call (call 2 0 OwnSGroups (holding [])) ≡ list-of (5 ∷ 3 ∷ []))
 unfolding computing
 room-enough = (refl, refl)
 
@@ -131,14 +134,14 @@ abbrev pub two : List ℕ
 two = table-of 2 0 [] [] (1 ∷ 2 ∷ [])
 
 -- the highest name, 65,535, is taken
-pub highest-group : call 0 0 (within (new-s-group (group-names - 1) 1)) two
+pub highest-group : call 0 0 (Within (NewSGroup (group-names - 1) 1)) two
     ≡ claim (Grouped (group-names - 1) 1) Done (table-of 2 0 (record { name = group-names - 1; members = 1; names = [] } ∷ []) [] (0 ∷ 2 ∷ []))
 unfolding computing
 highest-group = refl
 
 -- the next one and zero are not
-pub group-beyond : (call 0 0 (within (new-s-group group-names 1)) two ≡ refused GroupNameRange two)
-    × (call 0 0 (within (new-s-group 0 1)) two ≡ refused GroupNameRange two)
+pub group-beyond : (call 0 0 (Within (NewSGroup group-names 1)) two ≡ refused GroupNameRange two)
+    × (call 0 0 (Within (NewSGroup 0 1)) two ≡ refused GroupNameRange two)
 unfolding computing
 group-beyond = (refl, refl)
 
@@ -154,12 +157,12 @@ abbrev pub grouped : ℕ → List ℕ
 grouped n = table-of 1 0 (lone 1 n) [] []
 
 -- the last that fits goes in
-pub last-group-fits : call 0 0 (within (new-s-group group-limit 1)) (grouped (group-limit - 1)) ≡ claim (Grouped group-limit 1) Done (grouped group-limit)
+pub last-group-fits : call 0 0 (Within (NewSGroup group-limit 1)) (grouped (group-limit - 1)) ≡ claim (Grouped group-limit 1) Done (grouped group-limit)
 unfolding computing
 last-group-fits = refl
 
 -- one more does not
-pub one-more-group-refused : call 0 0 (within (new-s-group (group-limit + 1) 1)) (grouped group-limit) ≡ refused GroupsFull (grouped group-limit)
+pub one-more-group-refused : call 0 0 (Within (NewSGroup (group-limit + 1) 1)) (grouped group-limit) ≡ refused GroupsFull (grouped group-limit)
 unfolding computing
 one-more-group-refused = refl
 
@@ -170,35 +173,35 @@ abbrev pub between-two : List ℕ
 between-two = table-of 5 0 (record { name = 5; members = 3; names = [] } ∷ []) (10 ∷ 5 ∷ 2 ∷ 17 ∷ 8 ∷ []) (0 ∷ 0 ∷ 4 ∷ 24 ∷ 24 ∷ [])
 
 -- M13 with two connected free groups: there is one in the end, and all are connected
-pub both-free-groups : call 0 1 (delete-s-group 5) between-two ≡ claim True Done (table-of 5 0 [] (30 ∷ 29 ∷ 27 ∷ 23 ∷ 15 ∷ []) (31 ∷ 31 ∷ 31 ∷ 31 ∷ 31 ∷ []))
+pub both-free-groups : call 0 1 (DeleteSGroup 5) between-two ≡ claim True Done (table-of 5 0 [] (30 ∷ 29 ∷ 27 ∷ 23 ∷ 15 ∷ []) (31 ∷ 31 ∷ 31 ∷ 31 ∷ 31 ∷ []))
 unfolding computing
 both-free-groups = refl
 
 -- remove_nodes of all members deletes the s_group, with its names
-pub emptied : call 0 0 (remove-nodes 5 3) (holding most) ≡ claim True Done (table-of 2 0 [] (2 ∷ 1 ∷ []) (3 ∷ 3 ∷ []))
+pub emptied : call 0 0 (RemoveNodes 5 3) (holding most) ≡ claim True Done (table-of 2 0 [] (2 ∷ 1 ∷ []) (3 ∷ 3 ∷ []))
 unfolding computing
 emptied = refl
 
 -- ---- zero, and free nodes
 
 -- the s_group 0 finds nothing, and the connection is made
-pub group-zero : call 0 0 (whereis-name-at 1 0 70) (table-of 2 2 [] [] (1 ∷ [])) ≡ claim Undefined NotRegistered (table-of 2 2 [] (2 ∷ 1 ∷ []) (1 ∷ []))
+pub group-zero : call 0 0 (WhereisNameAt 1 0 70) (table-of 2 2 [] [] (1 ∷ [])) ≡ claim Undefined NotRegistered (table-of 2 2 [] (2 ∷ 1 ∷ []) (1 ∷ []))
 unfolding computing
 group-zero = refl
 
 -- a free hidden node is alone, connected or not
-pub hidden-alone : call 0 1 own-nodes (table-of 2 2 [] (2 ∷ 1 ∷ []) (1 ∷ [])) ≡ claim (Nodes 2 1) Done (table-of 2 2 [] (2 ∷ 1 ∷ []) (1 ∷ []))
+pub hidden-alone : call 0 1 OwnNodes (table-of 2 2 [] (2 ∷ 1 ∷ []) (1 ∷ [])) ≡ claim (Nodes 2 1) Done (table-of 2 2 [] (2 ∷ 1 ∷ []) (1 ∷ []))
 unfolding computing
 hidden-alone = refl
 
 -- a free node has no s_groups: the empty list, which needs no room
-pub free-in-none : call 0 0 own-s-groups two ≡ claim (Listed 0) Done two
+pub free-in-none : call 0 0 OwnSGroups two ≡ claim (Listed 0) Done two
 unfolding computing
 free-in-none = refl
 
 -- ---- tables that are refused
 
-pub zeros-unsound : call 64 0 own-nodes blank ≡ refused Unsound blank
+pub zeros-unsound : call 64 0 OwnNodes blank ≡ refused Unsound blank
 unfolding computing
 zeros-unsound = refl
 

@@ -11,7 +11,7 @@ use lib.ListN.{length}
 use borrow.Author.Tests.{ne-eqb, lt-ltb, le-ltb}
 use Rattle.nodes.specs.Sets.{has, single, union, diff}
 use Rattle.nodes.specs.Bools.{by-lt}
-use Rattle.nodes.specs.Laws.{union-right-comm, diff-right-comm, diff-none}
+use Rattle.nodes.specs.SetLaws.{union-right-comm, diff-right-comm, diff-none}
 use Rattle.entries.specs.Entries.{Entry}
 use Rattle.semantics.specs.State.{Group, State, find, become, put, add-group}
 use Rattle.semantics.specs.Groups.{length-put, length-add-group}

@@ -10,7 +10,7 @@ use lib.Dec.{eqb}
 use lib.ListN.{length, getD}
 use borrow.Author.Tests.{eqb-false, ne-eqb}
 use Rattle.entries.specs.Entries.{Entry, half-word, host, holds-pid, word-of, entry-of, words, entries}
-use Rattle.entries.specs.Soundness.{Ascending, Distinct, Hosted}
+use Rattle.entries.specs.NamespaceSound.{Ascending, Distinct, Hosted}
 use Rattle.semantics.specs.Truth.{neither}
 use Rattle.semantics.specs.Places.{each-place, each-pair}
 

@@ -13,7 +13,7 @@ use Rattle.semantics.specs.State.{Group, State, with-groups}
 use Rattle.semantics.specs.Table.{contents, layout}
 use Rattle.semantics.specs.Soundness.{name-of}
 use Rattle.semantics.specs.Bodies.{own-at, body-end}
-use Rattle.semantics.specs.Laid.{Sized, Laid, laid, words-of, length-of}
+use Rattle.semantics.specs.WordsOfState.{Sized, Laid, laid, words-of, length-of}
 use Rattle.semantics.specs.OneGroup.{group-words, names-put, group-contents}
 
 -- words stored one after another leave those before and after them

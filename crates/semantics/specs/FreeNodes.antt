@@ -9,11 +9,11 @@ use lib.ListN.{length, length-map}
 use lib.Dec.{ltb}
 use borrow.Author.Tests.{ltb-true, lt-ltb}
 use Rattle.nodes.specs.Sets.{has}
-use Rattle.nodes.specs.Laws.{union-all-in, union-all-out}
+use Rattle.nodes.specs.SetLaws.{union-all-in, union-all-out}
 use Rattle.semantics.specs.State.{Group, State, all-members}
 use Rattle.semantics.specs.Regular.{loose}
 use Rattle.semantics.specs.Truth.{unless, not-iff}
-use Rattle.semantics.specs.Loose.{has-free-nodes}
+use Rattle.semantics.specs.FreeGroupsOfNodes.{has-free-nodes}
 use Rattle.semantics.specs.Places.{group-at, members-at-place}
 
 -- a normal node of the roster, in no s_group

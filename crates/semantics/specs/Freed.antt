@@ -12,7 +12,7 @@ use lib.ListN.{length, getD}
 use borrow.Author.Tests.{eqb-true, eqb-false, lt-ltb}
 use Rattle.nodes.specs.Sets.{has, empty, union, inter, diff}
 use Rattle.nodes.specs.Bools.{by-test}
-use Rattle.nodes.specs.Laws.{has-union, has-inter, has-diff, has-none, has-below, below-pow, none-inter, inter-le-l, diff-le, union-all-in, union-all-out, subset-diff}
+use Rattle.nodes.specs.SetLaws.{has-union, has-inter, has-diff, has-none, has-below, below-pow, none-inter, inter-le-l, diff-le, union-all-in, union-all-out, subset-diff}
 use Rattle.semantics.specs.Sizes.{group-limit}
 use Rattle.semantics.specs.State.{Group, State, with-groups, free-of, find, put, drop-group, all-members}
 use Rattle.semantics.specs.Steps.{zip-with, interconnect, lot, near, touched, become-free, left-in}
@@ -21,7 +21,7 @@ use Rattle.semantics.specs.Truth.{or-cases, neither, unless}
 use Rattle.semantics.specs.Members.{in-word, at-zip-with, length-one-free-group}
 use Rattle.semantics.specs.Groups.{every-map, every-put, every-drop, of-found, rising-put, rising-drop, length-put, length-drop-group, all-found, all-put}
 use Rattle.semantics.specs.Merged.{wired-merge}
-use Rattle.semantics.specs.Loose.{has-free-nodes, loose-on-roster, loose-in, own-free, spread}
+use Rattle.semantics.specs.FreeGroupsOfNodes.{has-free-nodes, loose-on-roster, loose-in, own-free, spread}
 use Rattle.semantics.specs.Changed.{regular-rewired, met-still, place, regular-found, small-name}
 
 -- ---- what is touched: the free groups of the nodes k whose connections meet m

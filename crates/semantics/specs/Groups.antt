@@ -12,7 +12,7 @@ use lib.ListN.{length, length-map}
 use borrow.Author.Tests.{eqb-true, eq-eqb, ne-eqb, lt-ltb, le-ltb}
 use Rattle.nodes.specs.Sets.{has, union-all}
 use Rattle.nodes.specs.Bools.{by-test, by-lt, by-eq}
-use Rattle.nodes.specs.Laws.{has-union}
+use Rattle.nodes.specs.SetLaws.{has-union}
 use Rattle.entries.specs.Entries.{Entry}
 use Rattle.semantics.specs.State.{Group, find, become, put, add-group, drop-group, all-members}
 use Rattle.semantics.specs.Regular.{Every, Rising}

@@ -14,7 +14,11 @@ use Rattle.nodes.specs.Bools.{by-test}
 use Rattle.entries.specs.Entries.{Entry, host, lookup, holds-pid}
 use Rattle.semantics.specs.Sizes.{group-limit, names-per-group, group-names, links-at}
 use Rattle.semantics.specs.State.{Group, State, with-groups, with-links, with-free, free-of, find, put, add-group, drop-group}
-use Rattle.semantics.specs.Commands.{GroupCommand, register-name, re-register-name, unregister-name, whereis-name, registered-names, add-nodes, new-s-group, Command, within, whereis-name-at, send-at, send, send-name, remove-nodes, delete-s-group, own-nodes, own-s-groups, held, bad-group}
+use Rattle.commands.specs.declared.Command.{Command}
+use Rattle.commands.specs.declared.Command.the-variants.{Within, WhereisNameAt, SendAt, Send, SendName, RemoveNodes, DeleteSGroup, OwnNodes, OwnSGroups}
+use Rattle.commands.specs.declared.GroupCommand.{GroupCommand}
+use Rattle.commands.specs.declared.GroupCommand.the-variants.{RegisterName, ReRegisterName, UnregisterName, WhereisName, RegisteredNames, AddNodes, NewSGroup}
+use Rattle.semantics.specs.Ranges.{held, bad-group}
 use Rattle.semantics.specs.Steps.{meet, interconnect, leave-free, one-free-group, merge, connect, lot, touched, become-free, Effect, keep, hold, join, create, Outcome, Result, target, as-member, full, name-words, inside, outcome, apply, group-step, ask, send-on, asking, for-member, left-in, rule, step}
 use Rattle.semantics.specs.Table.{state-of}
 use Rattle.semantics.specs.Test.{sound}
@@ -22,10 +26,10 @@ use Rattle.semantics.specs.Call.{call}
 use Rattle.semantics.specs.Members.{length-interconnect, length-leave-free, length-one-free-group, getD-mapi, has-meet}
 use Rattle.semantics.specs.Groups.{length-put, length-add-group, length-drop-group}
 use Rattle.semantics.specs.StateTest.{has-place}
-use Rattle.semantics.specs.Laid.{Sized, Laid, laid, links-word}
+use Rattle.semantics.specs.WordsOfState.{Sized, Laid, laid, links-word}
 use Rattle.semantics.specs.Agree.{test-laid}
 use Rattle.semantics.specs.Calls.{call-sound, call-unsound}
-use Rattle.semantics.specs.declared.Value.{Value}
+use Rattle.answers.specs.declared.Value.{Value}
 
 -- ---- lists of connections
 
@@ -128,18 +132,18 @@ module _ (G : ℕ) where
   -- an s_group is made only where there is room for it
   inside-space : (room N i : ℕ) (c : GroupCommand) (o : Option Group) → Space G (inside room N G i c o .effect)
   unfolding inside
-  inside-space room N i (register-name s n p) o =
+  inside-space room N i (RegisterName s n p) o =
       space-if (eqb n 0) _ _ tt λ x. space-if (leb N (host p)) _ _ tt λ x. space-member i _ o _ λ g.
       space-if (held (lookup n (g .names))) _ _ tt λ x. space-if (holds-pid p (g .names)) _ _ tt λ x. space-if (full (g .names)) _ _ tt λ x. tt
-  inside-space room N i (re-register-name s n p) o =
+  inside-space room N i (ReRegisterName s n p) o =
       space-if (eqb n 0) _ _ tt λ x. space-if (leb N (host p)) _ _ tt λ x. space-member i _ o _ λ g.
       space-if (holds-pid p (g .names)) _ _ tt λ x. space-if (not (held (lookup n (g .names))) && full (g .names)) _ _ tt λ x. tt
-  inside-space room N i (unregister-name s n) o =
+  inside-space room N i (UnregisterName s n) o =
       space-if (eqb n 0) _ _ tt λ x. space-member i _ o _ λ g. space-if (held (lookup n (g .names))) _ _ tt λ x. tt
-  inside-space room N i (whereis-name s n) o = space-if (eqb n 0) _ _ tt λ x. space-member i _ o _ λ g. tt
-  inside-space room N i (registered-names s) o = space-member i _ o _ λ g. space-if (ltb room (length (name-words s (g .names)))) _ _ tt λ x. tt
-  inside-space room N i (add-nodes s set) o = space-if (beyond set N) _ _ tt λ x. space-member i _ o _ λ g. tt
-  inside-space room N i (new-s-group s set) o =
+  inside-space room N i (WhereisName s n) o = space-if (eqb n 0) _ _ tt λ x. space-member i _ o _ λ g. tt
+  inside-space room N i (RegisteredNames s) o = space-member i _ o _ λ g. space-if (ltb room (length (name-words s (g .names)))) _ _ tt λ x. tt
+  inside-space room N i (AddNodes s set) o = space-if (beyond set N) _ _ tt λ x. space-member i _ o _ λ g. tt
+  inside-space room N i (NewSGroup s set) o =
       space-if (beyond set N) _ _ tt λ x. space-if (not (has set i)) _ _ tt λ x. space-if (held o) _ _ tt λ x.
       space-if (leb group-limit G) _ _ tt λ x. leb-false group-limit G x
 
@@ -185,19 +189,19 @@ left-in-few s m ns gs = go (empty m)
 -- a rule takes no connection away
 rule-grows : (room i : ℕ) (c : Command) (st : State) → Grown st (rule room i c st .next)
 unfolding rule
-rule-grows room i (within c) st = group-step-grows room i c st
-rule-grows room i (whereis-name-at j s n) st = result-asking j s n st _ (connect-grows i j st)
-rule-grows room i (send-at j s n) st = result-asking j s n st _ (connect-grows i j st then send-on-grows i (ask j s n st .found) (connect i j st))
-rule-grows room i (send p) st = result-if (leb (st .size) (host p)) _ _ same (connect-grows i (host p) st)
-rule-grows room i (send-name s n) st = result-if (bad-group s) _ _ same (result-if (eqb n 0) _ _ same (send-on-grows i (ask i s n st .found) st))
-rule-grows room i (remove-nodes s set) st =
+rule-grows room i (Within c) st = group-step-grows room i c st
+rule-grows room i (WhereisNameAt j s n) st = result-asking j s n st _ (connect-grows i j st)
+rule-grows room i (SendAt j s n) st = result-asking j s n st _ (connect-grows i j st then send-on-grows i (ask j s n st .found) (connect i j st))
+rule-grows room i (Send p) st = result-if (leb (st .size) (host p)) _ _ same (connect-grows i (host p) st)
+rule-grows room i (SendName s n) st = result-if (bad-group s) _ _ same (result-if (eqb n 0) _ _ same (send-on-grows i (ask i s n st .found) st))
+rule-grows room i (RemoveNodes s set) st =
     result-if (bad-group s) _ _ same (result-if (beyond set (st .size)) _ _ same (result-member i (find s (st .groups)) _ λ g.
     become-free-grows (inter (g .members) set) _ st (left-in-few s (diff (g .members) set) (g .names) (st .groups))))
-rule-grows room i (delete-s-group s) st =
+rule-grows room i (DeleteSGroup s) st =
     result-if (bad-group s) _ _ same (result-member i (find s (st .groups)) _ λ g.
     become-free-grows (g .members) (drop-group s (st .groups)) st (length-drop-group s (st .groups)))
-rule-grows room i own-nodes st = same
-rule-grows room i own-s-groups st = same
+rule-grows room i OwnNodes st = same
+rule-grows room i OwnSGroups st = same
 
 -- a step takes no connection away, and where the lists of a state fit their sections, those of the next do
 pub step-grows : (room i : ℕ) (c : Command) (st : State) → Grown st (step room i c st .next)

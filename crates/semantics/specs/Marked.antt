@@ -6,18 +6,21 @@ use lib.ListN.{length, replicate}
 use lib.Count.{ones, onesIn}
 use Rattle.nodes.specs.Sets.{node-limit, union, inter, diff, union-all}
 use Rattle.entries.specs.Entries.{Entry, insert, remove, lookup, holds-pid, words, entries}
-use Rattle.entries.specs.Soundness.{is-ascending, is-distinct, is-hosted, sound-entries}
+use Rattle.entries.specs.NamespaceSound.{is-ascending, is-distinct, is-hosted, sound-entries}
 use Rattle.semantics.specs.Sizes.{names-per-group, table-words}
 use Rattle.semantics.specs.State.{Group, find, put, add-group, drop-group}
-use Rattle.semantics.specs.Commands.{Command, within, new-s-group, register-name, re-register-name, unregister-name, whereis-name, whereis-name-at, delete-s-group, answer-of}
+use Rattle.commands.specs.declared.Command.{Command}
+use Rattle.commands.specs.declared.Command.the-variants.{Within, WhereisNameAt, DeleteSGroup}
+use Rattle.commands.specs.declared.GroupCommand.the-variants.{NewSGroup, RegisterName, ReRegisterName, UnregisterName, WhereisName}
+use Rattle.answers.specs.Answers.{answer-of}
 use Rattle.semantics.specs.Steps.{interconnect, leave-free, one-free-group, connect, become-free, inside, outcome, apply, group-step, rule, step, opened}
 use Rattle.semantics.specs.Table.{sections, layout, state-of}
 use Rattle.semantics.specs.Test.{sound-group, sound-state, sound}
 use Rattle.semantics.specs.Call.{Call, call, opening}
-use Rattle.semantics.specs.declared.Value.{Value}
-use Rattle.semantics.specs.declared.Value.the-variants.{Ok, True, False, Error, Undefined, Pid, Grouped}
-use Rattle.semantics.specs.declared.Reason.{Reason}
-use Rattle.semantics.specs.declared.Reason.the-variants.{Done, GroupUnknown, NotMember, NameTaken, PidTaken, NotRegistered, CallerOutside, GroupTaken}
+use Rattle.answers.specs.declared.Value.{Value}
+use Rattle.answers.specs.declared.Value.the-variants.{Ok, True, False, Error, Undefined, Pid, Grouped}
+use Rattle.answers.specs.declared.Reason.{Reason}
+use Rattle.answers.specs.declared.Reason.the-variants.{Done, GroupUnknown, NotMember, NameTaken, PidTaken, NotRegistered, CallerOutside, GroupTaken}
 
 -- a command and its caller
 pub record Line : Type 0 where
@@ -40,18 +43,18 @@ run N hidden t ls = let r : Call = opening N hidden t in r ∷ calls (r .table) 
 -- M2 to M13
 abbrev pub marked : List Line
 marked =
-    0 says within (new-s-group 5 3)
-    ∷ 2 says within (new-s-group 6 3)
-    ∷ 0 says within (new-s-group 5 1)
-    ∷ 0 says within (register-name 5 70 67108865)
-    ∷ 0 says within (register-name 5 70 1)
-    ∷ 1 says within (register-name 5 71 67108865)
-    ∷ 1 says within (re-register-name 5 70 67108865)
-    ∷ 1 says within (unregister-name 5 99)
-    ∷ 2 says within (whereis-name 5 70)
-    ∷ 2 says whereis-name-at 0 5 70
-    ∷ 2 says whereis-name-at 3 9 70
-    ∷ 1 says delete-s-group 5
+    0 says Within (NewSGroup 5 3)
+    ∷ 2 says Within (NewSGroup 6 3)
+    ∷ 0 says Within (NewSGroup 5 1)
+    ∷ 0 says Within (RegisterName 5 70 67108865)
+    ∷ 0 says Within (RegisterName 5 70 1)
+    ∷ 1 says Within (RegisterName 5 71 67108865)
+    ∷ 1 says Within (ReRegisterName 5 70 67108865)
+    ∷ 1 says Within (UnregisterName 5 99)
+    ∷ 2 says Within (WhereisName 5 70)
+    ∷ 2 says WhereisNameAt 0 5 70
+    ∷ 2 says WhereisNameAt 3 9 70
+    ∷ 1 says DeleteSGroup 5
     ∷ []
 
 -- a table of four nodes of which node 3 is hidden: its s_groups, and the connections and free groups of the four

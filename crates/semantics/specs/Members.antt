@@ -13,7 +13,7 @@ use lib.ListN.{length, getD, List·getD-eq-default}
 use borrow.Author.Tests.{ne-eqb}
 use Rattle.nodes.specs.Sets.{node-limit, has, single, union, diff}
 use Rattle.nodes.specs.Bools.{by-lt}
-use Rattle.nodes.specs.Laws.{has-union, has-diff, has-single, has-none, has-above, has-below, diff-none}
+use Rattle.nodes.specs.SetLaws.{has-union, has-diff, has-single, has-none, has-above, has-below, diff-none}
 use Rattle.semantics.specs.Steps.{mapi, zip-with, meet, left, interconnect, leave-free, one-free-group}
 use Rattle.semantics.specs.Truth.{or-cases}
 

@@ -12,11 +12,11 @@ use Rattle.entries.specs.Storage.{length-words}
 use Rattle.semantics.specs.Sizes.{group-limit, group-names, contents-at, members-at}
 use Rattle.semantics.specs.State.{Group, State, with-groups}
 use Rattle.semantics.specs.Table.{pad, contents, bodies, sections}
-use Rattle.semantics.specs.Parts.{Cut}
+use Rattle.semantics.specs.ThreeParts.{Cut}
 use Rattle.semantics.specs.Sections.{store, lent-in, read-in}
 use Rattle.semantics.specs.Bodies.{own-at, length-bodies, bodies-append}
 use Rattle.semantics.specs.Places.{group-at, group-between}
-use Rattle.semantics.specs.Laid.{Laid, relaid}
+use Rattle.semantics.specs.WordsOfState.{Laid, relaid}
 use Rattle.semantics.specs.WordByWord.{reads}
 
 -- a word of each s_group, padded, where one s_group has become another: its word is stored

@@ -16,8 +16,8 @@ use Rattle.semantics.specs.Table.{groups-of, state-of}
 use Rattle.semantics.specs.Soundness.{count-of, contents-of, name-of, names-of, members-of, entry-of, Sound}
 use Rattle.semantics.specs.Places.{group-at}
 use Rattle.semantics.specs.EntryPlaces.{entry-at, entries-at}
-use Rattle.semantics.specs.Laid.{Sized}
-use Rattle.semantics.specs.Meaning.{Means}
+use Rattle.semantics.specs.WordsOfState.{Sized}
+use Rattle.semantics.specs.WordsMeaning.{Means}
 
 -- ---- s_groups from their contents words, members and bodies
 

@@ -12,19 +12,22 @@ use lib.Count.{trailingZeros}
 use lib.ListN.{getD}
 use Rattle.nodes.specs.Sets.{has, empty, single, union, inter, diff, lowest, upto, walk}
 use Rattle.entries.specs.Entries.{lookup}
-use Rattle.semantics.specs.Answers.{number}
+use Rattle.answers.specs.Answers.{number}
 use Rattle.semantics.specs.Sizes.{names-per-group, links-at, free-at}
 use Rattle.semantics.specs.State.{Group, State, with-groups, free-of, find}
-use Rattle.semantics.specs.Commands.{within, new-s-group, whereis-name, whereis-name-at, delete-s-group, answer-of, held}
+use Rattle.commands.specs.declared.Command.the-variants.{Within, WhereisNameAt, DeleteSGroup}
+use Rattle.commands.specs.declared.GroupCommand.the-variants.{NewSGroup, WhereisName}
+use Rattle.answers.specs.Answers.{answer-of}
+use Rattle.semantics.specs.Ranges.{held}
 use Rattle.semantics.specs.Steps.{Looked, looked, nothing-found, ask, tell, merge, lot, connect}
 use Rattle.semantics.specs.Table.{layout, state-of}
 use Rattle.semantics.specs.Call.{call}
 use Rattle.semantics.specs.Marked.{four, five, seventy}
 use Rattle.semantics.specs.Edges.{table-of, between-two}
 use Rattle.semantics.specs.Compute.{computing}
-use Rattle.semantics.specs.declared.Answer.{Answer}
-use Rattle.semantics.specs.declared.Value.the-variants.{Undefined}
-use Rattle.semantics.specs.declared.Reason.the-variants.{GroupUnknown, NotMember, NotRegistered}
+use Rattle.answers.specs.declared.Answer.{Answer}
+use Rattle.answers.specs.declared.Value.the-variants.{Undefined}
+use Rattle.answers.specs.declared.Reason.the-variants.{GroupUnknown, NotMember, NotRegistered}
 
 -- ours gives x and the wrong reading y, which is not x
 pub record Told-apart {A : Type 0} (ours wrong x y : A) : Type 0 where
@@ -65,7 +68,7 @@ abbrev pub three : List ℕ
 three = table-of 3 0 [] (6 ∷ 5 ∷ 3 ∷ []) (7 ∷ 7 ∷ 7 ∷ [])
 
 -- 0 and 1 leave {0, 1, 2} for an s_group: {2} is left, and not {1, 2} and {0, 2}
-pub leaving-together : Told-apart (free-groups (call 0 0 (within (new-s-group 5 3)) three .table)) (one-by-one 3 (free-groups three)) (4 ∷ []) (6 ∷ 5 ∷ [])
+pub leaving-together : Told-apart (free-groups (call 0 0 (Within (NewSGroup 5 3)) three .table)) (one-by-one 3 (free-groups three)) (4 ∷ []) (6 ∷ 5 ∷ [])
 unfolding computing upto trailingZeros
 leaving-together = record { ours-is = refl; wrong-is = refl; differ = λ e. let z : _≡_ {A = ℕ} 0 1 = cc in omega arith }
 
@@ -83,7 +86,7 @@ join-first gone gs st = merge (union (lot gone gs st) (first-touched (lot gone g
 
 -- M13 with two connected free groups: one free group is left, and not {0, 1, 2} and {3, 4}
 pub joining-all :
-    Told-apart (call 0 1 (delete-s-group 5) between-two .table) (table (join-first 3 [] (state between-two)))
+    Told-apart (call 0 1 (DeleteSGroup 5) between-two .table) (table (join-first 3 [] (state between-two)))
     (table-of 5 0 [] (30 ∷ 29 ∷ 27 ∷ 23 ∷ 15 ∷ []) (31 ∷ 31 ∷ 31 ∷ 31 ∷ 31 ∷ []))
     (table-of 5 0 [] (14 ∷ 5 ∷ 3 ∷ 17 ∷ 8 ∷ []) (7 ∷ 7 ∷ 7 ∷ 24 ∷ 24 ∷ []))
 unfolding computing
@@ -113,14 +116,14 @@ after-m12 = four (five seventy) (6 ∷ 1 ∷ 9 ∷ 4 ∷ []) (0 ∷ 0 ∷ 4 ∷ 
 
 -- M11, where 0 is in an s_group: free stays {2}, and is not {0, 2}
 pub no-merge-with-member :
-    Told-apart (call 0 2 (whereis-name-at 0 5 70) after-m10 .table) (table (connect-merging 2 0 (state after-m10)))
+    Told-apart (call 0 2 (WhereisNameAt 0 5 70) after-m10 .table) (table (connect-merging 2 0 (state after-m10)))
     after-m11 (four (five seventy) (6 ∷ 1 ∷ 1 ∷ 0 ∷ []) (5 ∷ 0 ∷ 5 ∷ 0 ∷ []))
 unfolding computing
 no-merge-with-member = record { ours-is = refl; wrong-is = refl; differ = λ e. let z : _≡_ {A = ℕ} 0 5 = ap (λ (t : List ℕ). getD t free-at 0) e in omega arith }
 
 -- M12, where 3 is hidden: free stays {2}, and is not {2, 3}
 pub no-merge-with-hidden :
-    Told-apart (call 0 2 (whereis-name-at 3 9 70) after-m11 .table) (table (connect-merging 2 3 (state after-m11)))
+    Told-apart (call 0 2 (WhereisNameAt 3 9 70) after-m11 .table) (table (connect-merging 2 3 (state after-m11)))
     after-m12 (four (five seventy) (6 ∷ 1 ∷ 9 ∷ 4 ∷ []) (0 ∷ 0 ∷ 12 ∷ 12 ∷ []))
 unfolding computing
 no-merge-with-hidden = record { ours-is = refl; wrong-is = refl; differ = λ e. let z : _≡_ {A = ℕ} 4 12 = ap (λ (t : List ℕ). getD t (free-at + 2) 0) e in omega arith }
@@ -133,7 +136,7 @@ connect-if-found i j s n st = cond (held (ask j s n st .found)) (connect i j st)
 
 -- M12: 2 and 3 are connected, though there is no s_group 9
 pub connection-stays :
-    Told-apart (call 0 2 (whereis-name-at 3 9 70) after-m11 .table) (table (connect-if-found 2 3 9 70 (state after-m11))) after-m12 after-m11
+    Told-apart (call 0 2 (WhereisNameAt 3 9 70) after-m11 .table) (table (connect-if-found 2 3 9 70 (state after-m11))) after-m12 after-m11
 unfolding computing
 connection-stays = record { ours-is = refl; wrong-is = refl; differ = λ e. let z : _≡_ {A = ℕ} 9 1 = ap (λ (t : List ℕ). getD t (links-at + 2) 0) e in omega arith }
 
@@ -149,7 +152,7 @@ name-first i n (some g) =
 
 -- the answers of whereis_name/2 in the s_group 5 to node 2, for each of the names, on the table after M10: ours, and the wrong reading's
 abbrev pub ours-to-outsider : List ℕ → List Answer
-ours-to-outsider ns = map (λ n. call 0 2 (within (whereis-name 5 n)) after-m10 .answer) ns
+ours-to-outsider ns = map (λ n. call 0 2 (Within (WhereisName 5 n)) after-m10 .answer) ns
 
 abbrev pub wrong-to-outsider : List ℕ → List Answer
 wrong-to-outsider ns = map (λ n. tell (name-first 2 n (find 5 (state after-m10 .groups))) (state after-m10) .answer) ns

@@ -11,18 +11,22 @@ use lib.ListN.{length}
 use Rattle.nodes.specs.Sets.{has, beyond}
 use Rattle.nodes.specs.Bools.{by-test}
 use Rattle.entries.specs.Entries.{lookup, holds-pid, host}
-use Rattle.semantics.specs.Answers.{number}
+use Rattle.answers.specs.Answers.{number}
 use Rattle.semantics.specs.Sizes.{group-limit, group-names, names-per-group, table-words}
 use Rattle.semantics.specs.State.{Group, State, find}
-use Rattle.semantics.specs.Commands.{Command, GroupCommand, within, register-name, re-register-name, unregister-name, registered-names, whereis-name, new-s-group, add-nodes, whereis-name-at, send, send-name, send-at, remove-nodes, delete-s-group, own-nodes, own-s-groups, bad-group, held}
+use Rattle.commands.specs.declared.Command.{Command}
+use Rattle.commands.specs.declared.Command.the-variants.{Within, WhereisNameAt, Send, SendName, SendAt, RemoveNodes, DeleteSGroup, OwnNodes, OwnSGroups}
+use Rattle.commands.specs.declared.GroupCommand.{GroupCommand}
+use Rattle.commands.specs.declared.GroupCommand.the-variants.{RegisterName, ReRegisterName, UnregisterName, RegisteredNames, WhereisName, NewSGroup, AddNodes}
+use Rattle.semantics.specs.Ranges.{bad-group, held}
 use Rattle.semantics.specs.Steps.{Outcome, Effect, keep, Result, Looked, as-member, for-member, full, name-words, looked, look-in, ask, send-on, asking, connect, inside, outcome, apply, target, group-step, rule, step}
 use Rattle.semantics.specs.Table.{layout, state-of}
 use Rattle.semantics.specs.Test.{sound}
 use Rattle.semantics.specs.Agree.{test-regular}
 use Rattle.semantics.specs.Call.{call}
 use Rattle.semantics.specs.Calls.{why, call-sound, call-unsound}
-use Rattle.semantics.specs.declared.Value.{Value}
-use Rattle.semantics.specs.declared.Reason.the-variants.{Done, TableLength, Unsound}
+use Rattle.answers.specs.declared.Value.{Value}
+use Rattle.answers.specs.declared.Reason.the-variants.{Done, TableLength, Unsound}
 
 -- ---- commands that name one s_group
 
@@ -40,18 +44,18 @@ q-member i v (some g) k f = q-if (has (g .members) i) _ _ (f g) (λ n. refl)
 
 inside-quiet : (room N G i : ℕ) (c : GroupCommand) (o : Option Group) → quiet (inside room N G i c o)
 unfolding inside
-inside-quiet room N G i (register-name s n p) o =
+inside-quiet room N G i (RegisterName s n p) o =
     q-if (eqb n 0) _ _ (λ x. refl) (q-if (leb N (host p)) _ _ (λ x. refl) (q-member i _ o _ (λ g.
     q-if (held (lookup n (g .names))) _ _ (λ x. refl) (q-if (holds-pid p (g .names)) _ _ (λ x. refl) (q-if (full (g .names)) _ _ (λ x. refl) (λ x. absurd (x refl)))))))
-inside-quiet room N G i (re-register-name s n p) o =
+inside-quiet room N G i (ReRegisterName s n p) o =
     q-if (eqb n 0) _ _ (λ x. refl) (q-if (leb N (host p)) _ _ (λ x. refl) (q-member i _ o _ (λ g.
     q-if (holds-pid p (g .names)) _ _ (λ x. refl) (q-if (not (held (lookup n (g .names))) && full (g .names)) _ _ (λ x. refl) (λ x. absurd (x refl))))))
-inside-quiet room N G i (unregister-name s n) o =
+inside-quiet room N G i (UnregisterName s n) o =
     q-if (eqb n 0) _ _ (λ x. refl) (q-member i _ o _ (λ g. q-if (held (lookup n (g .names))) _ _ (λ x. absurd (x refl)) (λ x. refl)))
-inside-quiet room N G i (whereis-name s n) o = q-if (eqb n 0) _ _ (λ x. refl) (q-member i _ o _ (λ g x. refl))
-inside-quiet room N G i (registered-names s) o = q-member i _ o _ (λ g. q-if (ltb room (length (name-words s (g .names)))) _ _ (λ x. refl) (λ x. refl))
-inside-quiet room N G i (add-nodes s set) o = q-if (beyond set N) _ _ (λ x. refl) (q-member i _ o _ (λ g x. absurd (x refl)))
-inside-quiet room N G i (new-s-group s set) o =
+inside-quiet room N G i (WhereisName s n) o = q-if (eqb n 0) _ _ (λ x. refl) (q-member i _ o _ (λ g x. refl))
+inside-quiet room N G i (RegisteredNames s) o = q-member i _ o _ (λ g. q-if (ltb room (length (name-words s (g .names)))) _ _ (λ x. refl) (λ x. refl))
+inside-quiet room N G i (AddNodes s set) o = q-if (beyond set N) _ _ (λ x. refl) (q-member i _ o _ (λ g x. absurd (x refl)))
+inside-quiet room N G i (NewSGroup s set) o =
     q-if (beyond set N) _ _ (λ x. refl) (q-if (not (has set i)) _ _ (λ x. refl) (q-if (held o) _ _ (λ x. refl) (q-if (leb group-limit G) _ _ (λ x. refl) (λ x. absurd (x refl)))))
 
 -- ---- commands that ask no other node
@@ -94,32 +98,32 @@ m-still i (some g) st k f = s-if st (has (g .members) i) _ _ (f g) (λ x. refl)
 
 -- whether it is a lookup or send by another node
 abbrev pub remote : Command → Bool
-remote (within c) = false
-remote (whereis-name-at j s n) = true
-remote (send-at j s n) = true
-remote (send p) = false
-remote (send-name s n) = false
-remote (remove-nodes s set) = false
-remote (delete-s-group s) = false
-remote own-nodes = false
-remote own-s-groups = false
+remote (Within c) = false
+remote (WhereisNameAt j s n) = true
+remote (SendAt j s n) = true
+remote (Send p) = false
+remote (SendName s n) = false
+remote (RemoveNodes s set) = false
+remote (DeleteSGroup s) = false
+remote OwnNodes = false
+remote OwnSGroups = false
 
 no : true ≡ false → ⊥
 no e = let z : _≡_ {A = ℕ} 0 1 = cc in omega arith
 
 rule-still : (room i : ℕ) (c : Command) (st : State) → remote c ≡ false → still st (rule room i c st)
 unfolding rule
-rule-still room i (within c) st e = group-still room i c st
-rule-still room i (whereis-name-at j s n) st e = absurd (no e)
-rule-still room i (send-at j s n) st e = absurd (no e)
-rule-still room i (send p) st e = s-if st (leb (st .size) (host p)) _ _ (λ x. refl) (λ x. absurd (x refl))
-rule-still room i (send-name s n) st e =
+rule-still room i (Within c) st e = group-still room i c st
+rule-still room i (WhereisNameAt j s n) st e = absurd (no e)
+rule-still room i (SendAt j s n) st e = absurd (no e)
+rule-still room i (Send p) st e = s-if st (leb (st .size) (host p)) _ _ (λ x. refl) (λ x. absurd (x refl))
+rule-still room i (SendName s n) st e =
     s-if st (bad-group s) _ _ (λ x. refl) (s-if st (eqb n 0) _ _ (λ x. refl) (λ x. ap (λ (f : Option ℕ). send-on i f st) (l-ask i s n st x .0)))
-rule-still room i (remove-nodes s set) st e =
+rule-still room i (RemoveNodes s set) st e =
     s-if st (bad-group s) _ _ (λ x. refl) (s-if st (beyond set (st .size)) _ _ (λ x. refl) (m-still i (find s (st .groups)) st _ (λ g x. absurd (x refl))))
-rule-still room i (delete-s-group s) st e = s-if st (bad-group s) _ _ (λ x. refl) (m-still i (find s (st .groups)) st _ (λ g x. absurd (x refl)))
-rule-still room i own-nodes st e = λ x. refl
-rule-still room i own-s-groups st e = λ x. refl
+rule-still room i (DeleteSGroup s) st e = s-if st (bad-group s) _ _ (λ x. refl) (m-still i (find s (st .groups)) st _ (λ g x. absurd (x refl)))
+rule-still room i OwnNodes st e = λ x. refl
+rule-still room i OwnSGroups st e = λ x. refl
 
 step-still : (room i : ℕ) (c : Command) (st : State) → remote c ≡ false → still st (step room i c st)
 unfolding step
@@ -153,8 +157,8 @@ k-asking i j s n st k h =
 
 -- the command asks the node j
 pub data Asks : Command → ℕ → Type 0 where
-  by-lookup : {j s n : ℕ} → Asks (whereis-name-at j s n) j
-  by-send : {j s n : ℕ} → Asks (send-at j s n) j
+  by-lookup : {j s n : ℕ} → Asks (WhereisNameAt j s n) j
+  by-send : {j s n : ℕ} → Asks (SendAt j s n) j
 
 step-linked : (room i j : ℕ) (c : Command) → Asks c j → (st : State) → linked st (connect i j st) (step room i c st)
 unfolding step rule

@@ -7,7 +7,7 @@ use Prim.Native.Nat.{ℕ, _^_, _≤_, _<_}
 use lib.Dec.{eqb}
 use lib.ListN.{length, getD}
 use Rattle.nodes.specs.Sets.{node-limit, has}
-use Rattle.entries.specs.Soundness as Namespace
+use Rattle.entries.specs.NamespaceSound as Namespace
 use Rattle.semantics.specs.Sizes.{group-limit, group-names}
 use Rattle.semantics.specs.State.{Group, State, free-nodes}
 

@@ -8,7 +8,7 @@ use native.Mathlib.Omega.{arith}
 use lib.ListN.{length, getD, take, drop, set, length-append, length-set, length-drop, take-append-drop, drop-of-length-le, List·getD-append}
 use lib.Seq.{getD-append-add, set-append-left, drop-append-add, drop-drop, getD-drop, getD-take, length-take-le, ext-getD}
 use Rattle.semantics.specs.Table.{cat}
-use Rattle.semantics.specs.Parts.{Cut, part, put, inner}
+use Rattle.semantics.specs.ThreeParts.{Cut, part, put, inner}
 
 -- where section k begins; past the last one, where the run ends
 abbrev pub start : ℕ → List ℕ → ℕ

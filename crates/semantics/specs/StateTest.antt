@@ -10,13 +10,13 @@ use lib.ListN.{length, getD, List·getD-eq-default}
 use borrow.Author.Tests.{eqb-true, eq-eqb, leb-true, le-leb}
 use Rattle.nodes.specs.Sets.{node-limit, has}
 use Rattle.nodes.specs.Bools.{by-lt}
-use Rattle.nodes.specs.Laws.{has-none, has-below, has-ext, below-pow}
+use Rattle.nodes.specs.SetLaws.{has-none, has-below, has-ext, below-pow}
 use Rattle.semantics.specs.State.{Group, State, free-nodes}
 use Rattle.semantics.specs.Test.{alli, each, linked, met, freely, sound-group, state-tests, sound-state}
 use Rattle.semantics.specs.Regular.{Met, loose, Regular-group, Regular}
 use Rattle.semantics.specs.Truth.{unless, cond-iff, beq-iff}
 use Rattle.semantics.specs.Places.{group-at, every-iff}
-use Rattle.semantics.specs.Loose.{loose-on-roster}
+use Rattle.semantics.specs.FreeGroupsOfNodes.{loose-on-roster}
 use Rattle.semantics.specs.TestLaws.{trues-at, _also_, alli-iff, each-iff, ascending-iff, roster-iff, group-iff, linked-iff, met-iff, has-freely}
 
 -- past the end of a list there is no node

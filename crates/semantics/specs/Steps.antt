@@ -8,14 +8,19 @@ use lib.Dec.{eqb, leb, ltb}
 use lib.ListN.{length, replicate}
 use Rattle.nodes.specs.Sets.{node-limit, has, empty, single, union, inter, diff, beyond, count, union-all}
 use Rattle.entries.specs.Entries.{Entry, half-word, host, insert, remove, lookup, holds-pid}
-use Rattle.semantics.specs.Commands.{Command, GroupCommand, within, register-name, re-register-name, unregister-name, whereis-name, registered-names, add-nodes, new-s-group, whereis-name-at, send-at, send, send-name, remove-nodes, delete-s-group, own-nodes, own-s-groups, bad-group, held, answer-of}
+use Rattle.commands.specs.declared.Command.{Command}
+use Rattle.commands.specs.declared.Command.the-variants.{Within, WhereisNameAt, SendAt, Send, SendName, RemoveNodes, DeleteSGroup, OwnNodes, OwnSGroups}
+use Rattle.commands.specs.declared.GroupCommand.{GroupCommand}
+use Rattle.commands.specs.declared.GroupCommand.the-variants.{RegisterName, ReRegisterName, UnregisterName, WhereisName, RegisteredNames, AddNodes, NewSGroup}
+use Rattle.answers.specs.Answers.{answer-of}
+use Rattle.semantics.specs.Ranges.{bad-group, held}
 use Rattle.semantics.specs.Sizes.{group-limit, names-per-group, group-names}
 use Rattle.semantics.specs.State.{Group, State, with-groups, with-links, with-free, free-of, find, put, add-group, drop-group, all-members}
-use Rattle.semantics.specs.declared.Answer.{Answer}
-use Rattle.semantics.specs.declared.Value.{Value}
-use Rattle.semantics.specs.declared.Value.the-variants.{True, False, Error, Undefined, Pid, Grouped, Nodes, Listed}
-use Rattle.semantics.specs.declared.Reason.{Reason}
-use Rattle.semantics.specs.declared.Reason.the-variants.{Done, CallerUnknown, GroupNameRange, NameZero, NodeUnknown, GroupUnknown, NotMember, NameTaken, PidTaken, NotRegistered, NamespaceFull, CallerOutside, GroupTaken, GroupsFull, RunShort}
+use Rattle.answers.specs.declared.Answer.{Answer}
+use Rattle.answers.specs.declared.Value.{Value}
+use Rattle.answers.specs.declared.Value.the-variants.{True, False, Error, Undefined, Pid, Grouped, Nodes, Listed}
+use Rattle.answers.specs.declared.Reason.{Reason}
+use Rattle.answers.specs.declared.Reason.the-variants.{Done, CallerUnknown, GroupNameRange, NameZero, NodeUnknown, GroupUnknown, NotMember, NameTaken, PidTaken, NotRegistered, NamespaceFull, CallerOutside, GroupTaken, GroupsFull, RunShort}
 
 -- ---- connections and free groups, word by word
 
@@ -101,23 +106,23 @@ error r st = reply Error r st
 
 -- the s_group that it names
 abbrev pub target : GroupCommand → ℕ
-target (register-name s n p) = s
-target (re-register-name s n p) = s
-target (unregister-name s n) = s
-target (whereis-name s n) = s
-target (registered-names s) = s
-target (add-nodes s set) = s
-target (new-s-group s set) = s
+target (RegisterName s n p) = s
+target (ReRegisterName s n p) = s
+target (UnregisterName s n) = s
+target (WhereisName s n) = s
+target (RegisteredNames s) = s
+target (AddNodes s set) = s
+target (NewSGroup s set) = s
 
 -- whether it is new_s_group
 abbrev pub creates : GroupCommand → Bool
-creates (register-name s n p) = false
-creates (re-register-name s n p) = false
-creates (unregister-name s n) = false
-creates (whereis-name s n) = false
-creates (registered-names s) = false
-creates (add-nodes s set) = false
-creates (new-s-group s set) = true
+creates (RegisterName s n p) = false
+creates (ReRegisterName s n p) = false
+creates (UnregisterName s n) = false
+creates (WhereisName s n) = false
+creates (RegisteredNames s) = false
+creates (AddNodes s set) = false
+creates (NewSGroup s set) = true
 
 -- what becomes of the s_group: nothing; these members and names; a set joins, so that all members meet and the set leaves the free
 -- groups; it is made of a set
@@ -172,7 +177,7 @@ name-words s ns = map (λ e. s * half-word + e .name) ns
 
 -- from reason 6 on: room is that of the lent run, N the roster size, G the number of s_groups, i the caller, found the s_group
 unfoldable pub inside : ℕ → ℕ → ℕ → ℕ → GroupCommand → Option Group → Outcome
-inside room N G i (register-name s n p) found =
+inside room N G i (RegisterName s n p) found =
     cond (eqb n 0) (say Error NameZero)
     (cond (leb N (host p)) (say Error NodeUnknown)
     (as-member i False found (λ g.
@@ -180,28 +185,28 @@ inside room N G i (register-name s n p) found =
     (cond (holds-pid p (g .names)) (say False PidTaken)
     (cond (full (g .names)) (say False NamespaceFull)
     (done (hold (g .members) (insert (record { name = n; pid = p }) (g .names))) True))))))
-inside room N G i (re-register-name s n p) found =
+inside room N G i (ReRegisterName s n p) found =
     cond (eqb n 0) (say Error NameZero)
     (cond (leb N (host p)) (say Error NodeUnknown)
     (as-member i False found (λ g.
     cond (holds-pid p (g .names)) (say False PidTaken)
     (cond (not (held (lookup n (g .names))) && full (g .names)) (say False NamespaceFull)
     (done (hold (g .members) (insert (record { name = n; pid = p }) (remove n (g .names)))) True)))))
-inside room N G i (unregister-name s n) found =
+inside room N G i (UnregisterName s n) found =
     cond (eqb n 0) (say Error NameZero)
     (as-member i False found (λ g.
     cond (held (lookup n (g .names)))
     (done (hold (g .members) (remove n (g .names))) True)
     (say True NotRegistered)))
-inside room N G i (whereis-name s n) found =
+inside room N G i (WhereisName s n) found =
     cond (eqb n 0) (say Error NameZero)
     (as-member i Undefined found (λ g. say (pid-or-undefined (lookup n (g .names))) (look-reason (lookup n (g .names)))))
-inside room N G i (registered-names s) found =
+inside room N G i (RegisteredNames s) found =
     as-member i (Listed 0) found (λ g. listed room (name-words s (g .names)))
-inside room N G i (add-nodes s set) found =
+inside room N G i (AddNodes s set) found =
     cond (beyond set N) (say Error NodeUnknown)
     (as-member i Error found (λ g. done (join set (union (g .members) set) (g .names)) (Grouped s set)))
-inside room N G i (new-s-group s set) found =
+inside room N G i (NewSGroup s set) found =
     cond (beyond set N) (say Error NodeUnknown)
     (cond (not (has set i)) (say Error CallerOutside)
     (cond (held found) (say Error GroupTaken)
@@ -300,27 +305,27 @@ told o st = record { answer = o .answer; list = o .list; next = st }
 
 -- from reason 5 on
 unfoldable pub rule : ℕ → ℕ → Command → State → Result
-rule room i (within c) st = group-step room i c st
-rule room i (whereis-name-at j s n) st = asking j s n st (tell (ask j s n st) (connect i j st))
-rule room i (send-at j s n) st = asking j s n st (tell (ask j s n st) (send-on i (ask j s n st .found) (connect i j st)))
-rule room i (send p) st =
+rule room i (Within c) st = group-step room i c st
+rule room i (WhereisNameAt j s n) st = asking j s n st (tell (ask j s n st) (connect i j st))
+rule room i (SendAt j s n) st = asking j s n st (tell (ask j s n st) (send-on i (ask j s n st .found) (connect i j st)))
+rule room i (Send p) st =
     cond (leb (st .size) (host p)) (error NodeUnknown st)
     (reply (Pid p) Done (connect i (host p) st))
-rule room i (send-name s n) st =
+rule room i (SendName s n) st =
     cond (bad-group s) (error GroupNameRange st)
     (cond (eqb n 0) (error NameZero st)
     (tell (ask i s n st) (send-on i (ask i s n st .found) st)))
-rule room i (remove-nodes s set) st =
+rule room i (RemoveNodes s set) st =
     cond (bad-group s) (error GroupNameRange st)
     (cond (beyond set (st .size)) (error NodeUnknown st)
     (for-member i (find s (st .groups)) st (λ g.
     reply True Done (become-free (inter (g .members) set) (left-in s (diff (g .members) set) (g .names) (st .groups)) st))))
-rule room i (delete-s-group s) st =
+rule room i (DeleteSGroup s) st =
     cond (bad-group s) (error GroupNameRange st)
     (for-member i (find s (st .groups)) st (λ g.
     reply True Done (become-free (g .members) (drop-group s (st .groups)) st)))
-rule room i own-nodes st = reply (Nodes (own-set i st) (count (own-set i st))) Done st
-rule room i own-s-groups st = told (listed room (own-list i (st .groups))) st
+rule room i OwnNodes st = reply (Nodes (own-set i st) (count (own-set i st))) Done st
+rule room i OwnSGroups st = told (listed room (own-list i (st .groups))) st
 
 -- reason 4 stands before all; room is how many words the run for a list has, i is the caller
 unfoldable pub step : ℕ → ℕ → Command → State → Result

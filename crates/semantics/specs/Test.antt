@@ -5,7 +5,7 @@ use Prim.Native.Nat.{ℕ, suc}
 use lib.Dec.{eqb, leb, ltb}
 use lib.ListN.{length, getD}
 use Rattle.nodes.specs.Sets.{node-limit, has, empty, single, union, inter, diff, subset, beyond}
-use Rattle.entries.specs.Soundness.{sound-entries}
+use Rattle.entries.specs.NamespaceSound.{sound-entries}
 use Rattle.semantics.specs.Sizes.{group-limit, group-names, table-words}
 use Rattle.semantics.specs.State.{Group, State, free-nodes}
 use Rattle.semantics.specs.Table.{layout, state-of}

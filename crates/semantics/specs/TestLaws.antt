@@ -10,7 +10,7 @@ use lib.Dec.{eqb}
 use lib.ListN.{length, getD}
 use borrow.Author.Tests.{eqb-true, eqb-false, eq-eqb, ne-eqb, ltb-true, lt-ltb, leb-false, lt-leb}
 use Rattle.nodes.specs.Sets.{has, single, union, inter, diff, subset, beyond}
-use Rattle.nodes.specs.Laws.{has-none, has-union, has-inter, has-single, has-without-node, subset-has, has-subset}
+use Rattle.nodes.specs.SetLaws.{has-none, has-union, has-inter, has-single, has-without-node, subset-has, has-subset}
 use Rattle.entries.specs.Storage.{sound-entries-iff}
 use Rattle.semantics.specs.State.{Group}
 use Rattle.semantics.specs.Test.{trues, alli, each, ascending, same, group-tests, sound-group, linked, met, freely}

@@ -3,7 +3,7 @@ use mathlib.Core.Path.{_≡_, sym, _∙_}
 use mathlib.Core.List.{List}
 use Prim.Native.Nat.{ℕ}
 use Rattle.semantics.specs.Call.{Call, listed-over}
-use Rattle.semantics.specs.declared.Answer.{Answer}
+use Rattle.answers.specs.declared.Answer.{Answer}
 
 -- two outcomes that are both f of the input are one
 pub unique : {A B : Type 0} (f : A → B) (input : A) {x y : B} → x ≡ f input → y ≡ f input → x ≡ y

@@ -18,7 +18,7 @@ use Rattle.semantics.specs.Places.{group-at, contents-at-place, members-
 use Rattle.semantics.specs.EntryPlaces.{entry-at}
 use Rattle.semantics.specs.Bodies.{body-at, body-in}
 use Rattle.semantics.specs.Sections.{run-from}
-use Rattle.semantics.specs.Laid.{Sized, Laid, sizes-of, size-is, hidden-is, count-is, spare-is, contents-word, members-word, links-word, free-word, body-word}
+use Rattle.semantics.specs.WordsOfState.{Sized, Laid, sizes-of, size-is, hidden-is, count-is, spare-is, contents-word, members-word, links-word, free-word, body-word}
 
 -- each word of t is the state's
 pub record Reads (cap : ℕ) (st : State) (t : List ℕ) : Type 0 where

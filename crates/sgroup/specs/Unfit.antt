@@ -5,13 +5,14 @@ use mathlib.Core.List.{List}
 use Prim.Native.Nat.{ℕ}
 use lib.ListN.{length}
 use Rattle.semantics.specs.Sizes.{names-per-group, table-words}
-use Rattle.semantics.specs.Commands.{Command, answer-of}
+use Rattle.commands.specs.declared.Command.{Command}
+use Rattle.answers.specs.Answers.{answer-of}
 use Rattle.semantics.specs.Test.{sound}
 use Rattle.semantics.specs.Calls.{why}
 use Rattle.semantics.specs.Agree.{test-regular}
-use Rattle.semantics.specs.declared.Answer.{Answer}
-use Rattle.semantics.specs.declared.Value.the-variants.{Error}
-use Rattle.steps.specs.Calls.{Says, Lists, says-unsound, lists-unsound}
+use Rattle.answers.specs.declared.Answer.{Answer}
+use Rattle.answers.specs.declared.Value.the-variants.{Error}
+use Rattle.returns.specs.Shown.{Says, Lists, says-unsound, lists-unsound}
 
 -- what a step asks for
 pub sound-run : (t : List ℕ) → sound names-per-group t ≡ true → (length t ≡ table-words names-per-group) × (sound names-per-group t ≡ true)

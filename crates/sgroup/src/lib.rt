@@ -1,14 +1,16 @@
 // The fifteen commands over a lent table.
+use answers::Answer;
+use answers::Reason;
+use answers::Value;
 use layout::TABLE_WORDS;
-use semantics::Answer;
-use semantics::Reason;
-use semantics::Value;
 ghost use mathlib.Core.Path.{_≡_};
 ghost use lib.ListN.{length};
-ghost use Rattle.semantics.specs.Commands.{answer-of, within, register-name, re-register-name, unregister-name, registered-names, whereis-name, new-s-group, add-nodes, whereis-name-at, send, send-name, send-at, remove-nodes, delete-s-group, own-nodes, own-s-groups};
+ghost use Rattle.commands.specs.declared.Command.the-variants.{Within, WhereisNameAt, Send, SendName, SendAt, RemoveNodes, DeleteSGroup, OwnNodes, OwnSGroups};
+ghost use Rattle.commands.specs.declared.GroupCommand.the-variants.{RegisterName, ReRegisterName, UnregisterName, RegisteredNames, WhereisName, NewSGroup, AddNodes};
+ghost use Rattle.answers.specs.Answers.{answer-of};
 ghost use Rattle.semantics.specs.Call.{call, listed-over};
 ghost use Rattle.semantics.specs.Calls.{why};
-ghost use Rattle.semantics.specs.declared.Value.the-variants.{Error};
+ghost use Rattle.answers.specs.declared.Value.the-variants.{Error};
 
 // The answer where the run is no sound table: its length is wrong, or it is unsound.
 fn unfit(table: &[u64]) -> Answer
@@ -28,8 +30,8 @@ fn unfit(table: &[u64]) -> Answer
 
 // Registers the pid under the name in the s_group.
 pub fn register_name(table: &mut [u64], caller: u32, s: u32, n: u32, p: u32) -> Answer
-    ensures { λ r. ⌜ r ≡ call 0 caller (within (register-name s n p)) (now (table .entry)) .answer ⌝ }
-    ensures { λ _. ⌜ now (table .exit) ≡ call 0 caller (within (register-name s n p)) (now (table .entry)) .table ⌝ }
+    ensures { λ r. ⌜ r ≡ call 0 caller (Within (RegisterName s n p)) (now (table .entry)) .answer ⌝ }
+    ensures { λ _. ⌜ now (table .exit) ≡ call 0 caller (Within (RegisterName s n p)) (now (table .entry)) .table ⌝ }
 {
     if table::is_sound(table) {
         return naming::register_name(table, caller, s, n, p);
@@ -39,8 +41,8 @@ pub fn register_name(table: &mut [u64], caller: u32, s: u32, n: u32, p: u32) -> 
 
 // Registers the pid under the name in the s_group, in place of the one that the name had.
 pub fn re_register_name(table: &mut [u64], caller: u32, s: u32, n: u32, p: u32) -> Answer
-    ensures { λ r. ⌜ r ≡ call 0 caller (within (re-register-name s n p)) (now (table .entry)) .answer ⌝ }
-    ensures { λ _. ⌜ now (table .exit) ≡ call 0 caller (within (re-register-name s n p)) (now (table .entry)) .table ⌝ }
+    ensures { λ r. ⌜ r ≡ call 0 caller (Within (ReRegisterName s n p)) (now (table .entry)) .answer ⌝ }
+    ensures { λ _. ⌜ now (table .exit) ≡ call 0 caller (Within (ReRegisterName s n p)) (now (table .entry)) .table ⌝ }
 {
     if table::is_sound(table) {
         return naming::re_register_name(table, caller, s, n, p);
@@ -50,8 +52,8 @@ pub fn re_register_name(table: &mut [u64], caller: u32, s: u32, n: u32, p: u32) 
 
 // Takes the name out of the s_group's namespace.
 pub fn unregister_name(table: &mut [u64], caller: u32, s: u32, n: u32) -> Answer
-    ensures { λ r. ⌜ r ≡ call 0 caller (within (unregister-name s n)) (now (table .entry)) .answer ⌝ }
-    ensures { λ _. ⌜ now (table .exit) ≡ call 0 caller (within (unregister-name s n)) (now (table .entry)) .table ⌝ }
+    ensures { λ r. ⌜ r ≡ call 0 caller (Within (UnregisterName s n)) (now (table .entry)) .answer ⌝ }
+    ensures { λ _. ⌜ now (table .exit) ≡ call 0 caller (Within (UnregisterName s n)) (now (table .entry)) .table ⌝ }
 {
     if table::is_sound(table) {
         return naming::unregister_name(table, caller, s, n);
@@ -61,8 +63,8 @@ pub fn unregister_name(table: &mut [u64], caller: u32, s: u32, n: u32) -> Answer
 
 // The names of the s_group, listed in the run.
 pub fn registered_names(table: &[u64], caller: u32, s: u32, out: &mut [u64]) -> Answer
-    ensures { λ r. ⌜ r ≡ call (length (now (out .entry))) caller (within (registered-names s)) (now (table .entry)) .answer ⌝ }
-    ensures { λ _. ⌜ now (out .exit) ≡ listed-over (call (length (now (out .entry))) caller (within (registered-names s)) (now (table .entry)) .list) (now (out .entry)) ⌝ }
+    ensures { λ r. ⌜ r ≡ call (length (now (out .entry))) caller (Within (RegisteredNames s)) (now (table .entry)) .answer ⌝ }
+    ensures { λ _. ⌜ now (out .exit) ≡ listed-over (call (length (now (out .entry))) caller (Within (RegisteredNames s)) (now (table .entry)) .list) (now (out .entry)) ⌝ }
 {
     if table::is_sound(table) {
         return reading::registered_names(table, caller, s, out);
@@ -72,7 +74,7 @@ pub fn registered_names(table: &[u64], caller: u32, s: u32, out: &mut [u64]) -> 
 
 // What the caller finds under the name in the s_group.
 pub fn whereis_name(table: &[u64], caller: u32, s: u32, n: u32) -> Answer
-    ensures { λ r. ⌜ r ≡ call 0 caller (within (whereis-name s n)) (now (table .entry)) .answer ⌝ }
+    ensures { λ r. ⌜ r ≡ call 0 caller (Within (WhereisName s n)) (now (table .entry)) .answer ⌝ }
 {
     if table::is_sound(table) {
         return reading::whereis_name(table, caller, s, n);
@@ -82,8 +84,8 @@ pub fn whereis_name(table: &[u64], caller: u32, s: u32, n: u32) -> Answer
 
 // What the node finds under the name in the s_group; the caller connects with the node.
 pub fn whereis_name_at(table: &mut [u64], caller: u32, node: u32, s: u32, n: u32) -> Answer
-    ensures { λ r. ⌜ r ≡ call 0 caller (whereis-name-at node s n) (now (table .entry)) .answer ⌝ }
-    ensures { λ _. ⌜ now (table .exit) ≡ call 0 caller (whereis-name-at node s n) (now (table .entry)) .table ⌝ }
+    ensures { λ r. ⌜ r ≡ call 0 caller (WhereisNameAt node s n) (now (table .entry)) .answer ⌝ }
+    ensures { λ _. ⌜ now (table .exit) ≡ call 0 caller (WhereisNameAt node s n) (now (table .entry)) .table ⌝ }
 {
     if table::is_sound(table) {
         return reaching::whereis_name_at(table, caller, node, s, n);
@@ -93,8 +95,8 @@ pub fn whereis_name_at(table: &mut [u64], caller: u32, node: u32, s: u32, n: u32
 
 // The caller sends to the pid, and connects with its host.
 pub fn send(table: &mut [u64], caller: u32, p: u32) -> Answer
-    ensures { λ r. ⌜ r ≡ call 0 caller (send p) (now (table .entry)) .answer ⌝ }
-    ensures { λ _. ⌜ now (table .exit) ≡ call 0 caller (send p) (now (table .entry)) .table ⌝ }
+    ensures { λ r. ⌜ r ≡ call 0 caller (Send p) (now (table .entry)) .answer ⌝ }
+    ensures { λ _. ⌜ now (table .exit) ≡ call 0 caller (Send p) (now (table .entry)) .table ⌝ }
 {
     if table::is_sound(table) {
         return reaching::send(table, caller, p);
@@ -104,8 +106,8 @@ pub fn send(table: &mut [u64], caller: u32, p: u32) -> Answer
 
 // The caller sends to the pid that it finds under the name in the s_group.
 pub fn send_name(table: &mut [u64], caller: u32, s: u32, n: u32) -> Answer
-    ensures { λ r. ⌜ r ≡ call 0 caller (send-name s n) (now (table .entry)) .answer ⌝ }
-    ensures { λ _. ⌜ now (table .exit) ≡ call 0 caller (send-name s n) (now (table .entry)) .table ⌝ }
+    ensures { λ r. ⌜ r ≡ call 0 caller (SendName s n) (now (table .entry)) .answer ⌝ }
+    ensures { λ _. ⌜ now (table .exit) ≡ call 0 caller (SendName s n) (now (table .entry)) .table ⌝ }
 {
     if table::is_sound(table) {
         return reaching::send_name(table, caller, s, n);
@@ -115,8 +117,8 @@ pub fn send_name(table: &mut [u64], caller: u32, s: u32, n: u32) -> Answer
 
 // The caller sends to the pid that the node finds under the name in the s_group.
 pub fn send_at(table: &mut [u64], caller: u32, node: u32, s: u32, n: u32) -> Answer
-    ensures { λ r. ⌜ r ≡ call 0 caller (send-at node s n) (now (table .entry)) .answer ⌝ }
-    ensures { λ _. ⌜ now (table .exit) ≡ call 0 caller (send-at node s n) (now (table .entry)) .table ⌝ }
+    ensures { λ r. ⌜ r ≡ call 0 caller (SendAt node s n) (now (table .entry)) .answer ⌝ }
+    ensures { λ _. ⌜ now (table .exit) ≡ call 0 caller (SendAt node s n) (now (table .entry)) .table ⌝ }
 {
     if table::is_sound(table) {
         return reaching::send_at(table, caller, node, s, n);
@@ -126,8 +128,8 @@ pub fn send_at(table: &mut [u64], caller: u32, node: u32, s: u32, n: u32) -> Ans
 
 // A new s_group of the set.
 pub fn new_s_group(table: &mut [u64], caller: u32, s: u32, set: u64) -> Answer
-    ensures { λ r. ⌜ r ≡ call 0 caller (within (new-s-group s set)) (now (table .entry)) .answer ⌝ }
-    ensures { λ _. ⌜ now (table .exit) ≡ call 0 caller (within (new-s-group s set)) (now (table .entry)) .table ⌝ }
+    ensures { λ r. ⌜ r ≡ call 0 caller (Within (NewSGroup s set)) (now (table .entry)) .answer ⌝ }
+    ensures { λ _. ⌜ now (table .exit) ≡ call 0 caller (Within (NewSGroup s set)) (now (table .entry)) .table ⌝ }
 {
     if table::is_sound(table) {
         return grouping::new_s_group(table, caller, s, set);
@@ -137,8 +139,8 @@ pub fn new_s_group(table: &mut [u64], caller: u32, s: u32, set: u64) -> Answer
 
 // The set joins the s_group.
 pub fn add_nodes(table: &mut [u64], caller: u32, s: u32, set: u64) -> Answer
-    ensures { λ r. ⌜ r ≡ call 0 caller (within (add-nodes s set)) (now (table .entry)) .answer ⌝ }
-    ensures { λ _. ⌜ now (table .exit) ≡ call 0 caller (within (add-nodes s set)) (now (table .entry)) .table ⌝ }
+    ensures { λ r. ⌜ r ≡ call 0 caller (Within (AddNodes s set)) (now (table .entry)) .answer ⌝ }
+    ensures { λ _. ⌜ now (table .exit) ≡ call 0 caller (Within (AddNodes s set)) (now (table .entry)) .table ⌝ }
 {
     if table::is_sound(table) {
         return grouping::add_nodes(table, caller, s, set);
@@ -148,8 +150,8 @@ pub fn add_nodes(table: &mut [u64], caller: u32, s: u32, set: u64) -> Answer
 
 // The members of the set leave the s_group.
 pub fn remove_nodes(table: &mut [u64], caller: u32, s: u32, set: u64) -> Answer
-    ensures { λ r. ⌜ r ≡ call 0 caller (remove-nodes s set) (now (table .entry)) .answer ⌝ }
-    ensures { λ _. ⌜ now (table .exit) ≡ call 0 caller (remove-nodes s set) (now (table .entry)) .table ⌝ }
+    ensures { λ r. ⌜ r ≡ call 0 caller (RemoveNodes s set) (now (table .entry)) .answer ⌝ }
+    ensures { λ _. ⌜ now (table .exit) ≡ call 0 caller (RemoveNodes s set) (now (table .entry)) .table ⌝ }
 {
     if table::is_sound(table) {
         return grouping::remove_nodes(table, caller, s, set);
@@ -159,8 +161,8 @@ pub fn remove_nodes(table: &mut [u64], caller: u32, s: u32, set: u64) -> Answer
 
 // The s_group goes, with its names.
 pub fn delete_s_group(table: &mut [u64], caller: u32, s: u32) -> Answer
-    ensures { λ r. ⌜ r ≡ call 0 caller (delete-s-group s) (now (table .entry)) .answer ⌝ }
-    ensures { λ _. ⌜ now (table .exit) ≡ call 0 caller (delete-s-group s) (now (table .entry)) .table ⌝ }
+    ensures { λ r. ⌜ r ≡ call 0 caller (DeleteSGroup s) (now (table .entry)) .answer ⌝ }
+    ensures { λ _. ⌜ now (table .exit) ≡ call 0 caller (DeleteSGroup s) (now (table .entry)) .table ⌝ }
 {
     if table::is_sound(table) {
         return grouping::delete_s_group(table, caller, s);
@@ -170,7 +172,7 @@ pub fn delete_s_group(table: &mut [u64], caller: u32, s: u32) -> Answer
 
 // The nodes of the caller's groups, and how many they are.
 pub fn own_nodes(table: &[u64], caller: u32) -> Answer
-    ensures { λ r. ⌜ r ≡ call 0 caller own-nodes (now (table .entry)) .answer ⌝ }
+    ensures { λ r. ⌜ r ≡ call 0 caller OwnNodes (now (table .entry)) .answer ⌝ }
 {
     if table::is_sound(table) {
         return own::own_nodes(table, caller);
@@ -180,8 +182,8 @@ pub fn own_nodes(table: &[u64], caller: u32) -> Answer
 
 // The caller's s_groups, name and members of each, listed in the run.
 pub fn own_s_groups(table: &[u64], caller: u32, out: &mut [u64]) -> Answer
-    ensures { λ r. ⌜ r ≡ call (length (now (out .entry))) caller own-s-groups (now (table .entry)) .answer ⌝ }
-    ensures { λ _. ⌜ now (out .exit) ≡ listed-over (call (length (now (out .entry))) caller own-s-groups (now (table .entry)) .list) (now (out .entry)) ⌝ }
+    ensures { λ r. ⌜ r ≡ call (length (now (out .entry))) caller OwnSGroups (now (table .entry)) .answer ⌝ }
+    ensures { λ _. ⌜ now (out .exit) ≡ listed-over (call (length (now (out .entry))) caller OwnSGroups (now (table .entry)) .list) (now (out .entry)) ⌝ }
 {
     if table::is_sound(table) {
         return own::own_s_groups(table, caller, out);

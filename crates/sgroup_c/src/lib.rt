@@ -1,13 +1,14 @@
 // The library for C and Rust: opening, the test and the commands, with numbers for their answers. A run is passed as a pointer and a length.
 ghost use mathlib.Core.Path.{_≡_};
 ghost use mathlib.Core.List.{[]};
-ghost use Rattle.semantics.specs.Answers.{number};
+ghost use Rattle.answers.specs.Answers.{number};
 ghost use Rattle.semantics.specs.Sizes.{names-per-group};
-ghost use Rattle.semantics.specs.Commands.{within, register-name, re-register-name, unregister-name, registered-names, whereis-name, whereis-name-at, send, send-name, send-at, new-s-group, add-nodes, remove-nodes, delete-s-group, own-nodes, own-s-groups};
+ghost use Rattle.commands.specs.declared.Command.the-variants.{Within, WhereisNameAt, Send, SendName, SendAt, RemoveNodes, DeleteSGroup, OwnNodes, OwnSGroups};
+ghost use Rattle.commands.specs.declared.GroupCommand.the-variants.{RegisterName, ReRegisterName, UnregisterName, RegisteredNames, WhereisName, NewSGroup, AddNodes};
 ghost use Rattle.semantics.specs.Call.{opening};
 ghost use Rattle.semantics.specs.Test.{sound};
-ghost use Rattle.told.specs.Numbers.{told, commanded};
-use told::put;
+ghost use Rattle.answer_words.specs.AnswerWords.{told, commanded};
+use answer_words::put;
 
 // How many words an answer takes: its kind, two numbers, the number of its reason.
 const ANSWER_WORDS: usize = 4;
@@ -33,7 +34,7 @@ pub extern "C" fn sgroup_open(table: &mut [u64], n: u32, hidden: u64, answer: &m
     if answer.len() < ANSWER_WORDS {
         return NO_ROOM;
     }
-    put(answer, fresh::open(table, n, hidden))
+    put(answer, opening::open(table, n, hidden))
 }
 
 // Registers the pid under the name in the s_group.
@@ -46,9 +47,9 @@ pub extern "C" fn sgroup_register_name(
     p: u32,
     answer: &mut [u64],
 ) -> u32
-    ensures { λ r. ⌜ r ≡ commanded caller (within (register-name s n p)) (now (answer .entry)) [] (now (table .entry)) .returned ⌝ }
-    ensures { λ _. ⌜ now (answer .exit) ≡ commanded caller (within (register-name s n p)) (now (answer .entry)) [] (now (table .entry)) .answer ⌝ }
-    ensures { λ _. ⌜ now (table .exit) ≡ commanded caller (within (register-name s n p)) (now (answer .entry)) [] (now (table .entry)) .table ⌝ }
+    ensures { λ r. ⌜ r ≡ commanded caller (Within (RegisterName s n p)) (now (answer .entry)) [] (now (table .entry)) .returned ⌝ }
+    ensures { λ _. ⌜ now (answer .exit) ≡ commanded caller (Within (RegisterName s n p)) (now (answer .entry)) [] (now (table .entry)) .answer ⌝ }
+    ensures { λ _. ⌜ now (table .exit) ≡ commanded caller (Within (RegisterName s n p)) (now (answer .entry)) [] (now (table .entry)) .table ⌝ }
 {
     if answer.len() < ANSWER_WORDS {
         return NO_ROOM;
@@ -66,9 +67,9 @@ pub extern "C" fn sgroup_re_register_name(
     p: u32,
     answer: &mut [u64],
 ) -> u32
-    ensures { λ r. ⌜ r ≡ commanded caller (within (re-register-name s n p)) (now (answer .entry)) [] (now (table .entry)) .returned ⌝ }
-    ensures { λ _. ⌜ now (answer .exit) ≡ commanded caller (within (re-register-name s n p)) (now (answer .entry)) [] (now (table .entry)) .answer ⌝ }
-    ensures { λ _. ⌜ now (table .exit) ≡ commanded caller (within (re-register-name s n p)) (now (answer .entry)) [] (now (table .entry)) .table ⌝ }
+    ensures { λ r. ⌜ r ≡ commanded caller (Within (ReRegisterName s n p)) (now (answer .entry)) [] (now (table .entry)) .returned ⌝ }
+    ensures { λ _. ⌜ now (answer .exit) ≡ commanded caller (Within (ReRegisterName s n p)) (now (answer .entry)) [] (now (table .entry)) .answer ⌝ }
+    ensures { λ _. ⌜ now (table .exit) ≡ commanded caller (Within (ReRegisterName s n p)) (now (answer .entry)) [] (now (table .entry)) .table ⌝ }
 {
     if answer.len() < ANSWER_WORDS {
         return NO_ROOM;
@@ -85,9 +86,9 @@ pub extern "C" fn sgroup_unregister_name(
     n: u32,
     answer: &mut [u64],
 ) -> u32
-    ensures { λ r. ⌜ r ≡ commanded caller (within (unregister-name s n)) (now (answer .entry)) [] (now (table .entry)) .returned ⌝ }
-    ensures { λ _. ⌜ now (answer .exit) ≡ commanded caller (within (unregister-name s n)) (now (answer .entry)) [] (now (table .entry)) .answer ⌝ }
-    ensures { λ _. ⌜ now (table .exit) ≡ commanded caller (within (unregister-name s n)) (now (answer .entry)) [] (now (table .entry)) .table ⌝ }
+    ensures { λ r. ⌜ r ≡ commanded caller (Within (UnregisterName s n)) (now (answer .entry)) [] (now (table .entry)) .returned ⌝ }
+    ensures { λ _. ⌜ now (answer .exit) ≡ commanded caller (Within (UnregisterName s n)) (now (answer .entry)) [] (now (table .entry)) .answer ⌝ }
+    ensures { λ _. ⌜ now (table .exit) ≡ commanded caller (Within (UnregisterName s n)) (now (answer .entry)) [] (now (table .entry)) .table ⌝ }
 {
     if answer.len() < ANSWER_WORDS {
         return NO_ROOM;
@@ -104,9 +105,9 @@ pub extern "C" fn sgroup_registered_names(
     out: &mut [u64],
     answer: &mut [u64],
 ) -> u32
-    ensures { λ r. ⌜ r ≡ commanded caller (within (registered-names s)) (now (answer .entry)) (now (out .entry)) (now (table .entry)) .returned ⌝ }
-    ensures { λ _. ⌜ now (answer .exit) ≡ commanded caller (within (registered-names s)) (now (answer .entry)) (now (out .entry)) (now (table .entry)) .answer ⌝ }
-    ensures { λ _. ⌜ now (out .exit) ≡ commanded caller (within (registered-names s)) (now (answer .entry)) (now (out .entry)) (now (table .entry)) .list ⌝ }
+    ensures { λ r. ⌜ r ≡ commanded caller (Within (RegisteredNames s)) (now (answer .entry)) (now (out .entry)) (now (table .entry)) .returned ⌝ }
+    ensures { λ _. ⌜ now (answer .exit) ≡ commanded caller (Within (RegisteredNames s)) (now (answer .entry)) (now (out .entry)) (now (table .entry)) .answer ⌝ }
+    ensures { λ _. ⌜ now (out .exit) ≡ commanded caller (Within (RegisteredNames s)) (now (answer .entry)) (now (out .entry)) (now (table .entry)) .list ⌝ }
 {
     if answer.len() < ANSWER_WORDS {
         return NO_ROOM;
@@ -123,8 +124,8 @@ pub extern "C" fn sgroup_whereis_name(
     n: u32,
     answer: &mut [u64],
 ) -> u32
-    ensures { λ r. ⌜ r ≡ commanded caller (within (whereis-name s n)) (now (answer .entry)) [] (now (table .entry)) .returned ⌝ }
-    ensures { λ _. ⌜ now (answer .exit) ≡ commanded caller (within (whereis-name s n)) (now (answer .entry)) [] (now (table .entry)) .answer ⌝ }
+    ensures { λ r. ⌜ r ≡ commanded caller (Within (WhereisName s n)) (now (answer .entry)) [] (now (table .entry)) .returned ⌝ }
+    ensures { λ _. ⌜ now (answer .exit) ≡ commanded caller (Within (WhereisName s n)) (now (answer .entry)) [] (now (table .entry)) .answer ⌝ }
 {
     if answer.len() < ANSWER_WORDS {
         return NO_ROOM;
@@ -142,9 +143,9 @@ pub extern "C" fn sgroup_whereis_name_at(
     n: u32,
     answer: &mut [u64],
 ) -> u32
-    ensures { λ r. ⌜ r ≡ commanded caller (whereis-name-at node s n) (now (answer .entry)) [] (now (table .entry)) .returned ⌝ }
-    ensures { λ _. ⌜ now (answer .exit) ≡ commanded caller (whereis-name-at node s n) (now (answer .entry)) [] (now (table .entry)) .answer ⌝ }
-    ensures { λ _. ⌜ now (table .exit) ≡ commanded caller (whereis-name-at node s n) (now (answer .entry)) [] (now (table .entry)) .table ⌝ }
+    ensures { λ r. ⌜ r ≡ commanded caller (WhereisNameAt node s n) (now (answer .entry)) [] (now (table .entry)) .returned ⌝ }
+    ensures { λ _. ⌜ now (answer .exit) ≡ commanded caller (WhereisNameAt node s n) (now (answer .entry)) [] (now (table .entry)) .answer ⌝ }
+    ensures { λ _. ⌜ now (table .exit) ≡ commanded caller (WhereisNameAt node s n) (now (answer .entry)) [] (now (table .entry)) .table ⌝ }
 {
     if answer.len() < ANSWER_WORDS {
         return NO_ROOM;
@@ -155,9 +156,9 @@ pub extern "C" fn sgroup_whereis_name_at(
 // The caller sends to the pid, and connects with its host.
 #[no_mangle]
 pub extern "C" fn sgroup_send(table: &mut [u64], caller: u32, p: u32, answer: &mut [u64]) -> u32
-    ensures { λ r. ⌜ r ≡ commanded caller (send p) (now (answer .entry)) [] (now (table .entry)) .returned ⌝ }
-    ensures { λ _. ⌜ now (answer .exit) ≡ commanded caller (send p) (now (answer .entry)) [] (now (table .entry)) .answer ⌝ }
-    ensures { λ _. ⌜ now (table .exit) ≡ commanded caller (send p) (now (answer .entry)) [] (now (table .entry)) .table ⌝ }
+    ensures { λ r. ⌜ r ≡ commanded caller (Send p) (now (answer .entry)) [] (now (table .entry)) .returned ⌝ }
+    ensures { λ _. ⌜ now (answer .exit) ≡ commanded caller (Send p) (now (answer .entry)) [] (now (table .entry)) .answer ⌝ }
+    ensures { λ _. ⌜ now (table .exit) ≡ commanded caller (Send p) (now (answer .entry)) [] (now (table .entry)) .table ⌝ }
 {
     if answer.len() < ANSWER_WORDS {
         return NO_ROOM;
@@ -174,9 +175,9 @@ pub extern "C" fn sgroup_send_name(
     n: u32,
     answer: &mut [u64],
 ) -> u32
-    ensures { λ r. ⌜ r ≡ commanded caller (send-name s n) (now (answer .entry)) [] (now (table .entry)) .returned ⌝ }
-    ensures { λ _. ⌜ now (answer .exit) ≡ commanded caller (send-name s n) (now (answer .entry)) [] (now (table .entry)) .answer ⌝ }
-    ensures { λ _. ⌜ now (table .exit) ≡ commanded caller (send-name s n) (now (answer .entry)) [] (now (table .entry)) .table ⌝ }
+    ensures { λ r. ⌜ r ≡ commanded caller (SendName s n) (now (answer .entry)) [] (now (table .entry)) .returned ⌝ }
+    ensures { λ _. ⌜ now (answer .exit) ≡ commanded caller (SendName s n) (now (answer .entry)) [] (now (table .entry)) .answer ⌝ }
+    ensures { λ _. ⌜ now (table .exit) ≡ commanded caller (SendName s n) (now (answer .entry)) [] (now (table .entry)) .table ⌝ }
 {
     if answer.len() < ANSWER_WORDS {
         return NO_ROOM;
@@ -194,9 +195,9 @@ pub extern "C" fn sgroup_send_at(
     n: u32,
     answer: &mut [u64],
 ) -> u32
-    ensures { λ r. ⌜ r ≡ commanded caller (send-at node s n) (now (answer .entry)) [] (now (table .entry)) .returned ⌝ }
-    ensures { λ _. ⌜ now (answer .exit) ≡ commanded caller (send-at node s n) (now (answer .entry)) [] (now (table .entry)) .answer ⌝ }
-    ensures { λ _. ⌜ now (table .exit) ≡ commanded caller (send-at node s n) (now (answer .entry)) [] (now (table .entry)) .table ⌝ }
+    ensures { λ r. ⌜ r ≡ commanded caller (SendAt node s n) (now (answer .entry)) [] (now (table .entry)) .returned ⌝ }
+    ensures { λ _. ⌜ now (answer .exit) ≡ commanded caller (SendAt node s n) (now (answer .entry)) [] (now (table .entry)) .answer ⌝ }
+    ensures { λ _. ⌜ now (table .exit) ≡ commanded caller (SendAt node s n) (now (answer .entry)) [] (now (table .entry)) .table ⌝ }
 {
     if answer.len() < ANSWER_WORDS {
         return NO_ROOM;
@@ -213,9 +214,9 @@ pub extern "C" fn sgroup_new_s_group(
     set: u64,
     answer: &mut [u64],
 ) -> u32
-    ensures { λ r. ⌜ r ≡ commanded caller (within (new-s-group s set)) (now (answer .entry)) [] (now (table .entry)) .returned ⌝ }
-    ensures { λ _. ⌜ now (answer .exit) ≡ commanded caller (within (new-s-group s set)) (now (answer .entry)) [] (now (table .entry)) .answer ⌝ }
-    ensures { λ _. ⌜ now (table .exit) ≡ commanded caller (within (new-s-group s set)) (now (answer .entry)) [] (now (table .entry)) .table ⌝ }
+    ensures { λ r. ⌜ r ≡ commanded caller (Within (NewSGroup s set)) (now (answer .entry)) [] (now (table .entry)) .returned ⌝ }
+    ensures { λ _. ⌜ now (answer .exit) ≡ commanded caller (Within (NewSGroup s set)) (now (answer .entry)) [] (now (table .entry)) .answer ⌝ }
+    ensures { λ _. ⌜ now (table .exit) ≡ commanded caller (Within (NewSGroup s set)) (now (answer .entry)) [] (now (table .entry)) .table ⌝ }
 {
     if answer.len() < ANSWER_WORDS {
         return NO_ROOM;
@@ -232,9 +233,9 @@ pub extern "C" fn sgroup_add_nodes(
     set: u64,
     answer: &mut [u64],
 ) -> u32
-    ensures { λ r. ⌜ r ≡ commanded caller (within (add-nodes s set)) (now (answer .entry)) [] (now (table .entry)) .returned ⌝ }
-    ensures { λ _. ⌜ now (answer .exit) ≡ commanded caller (within (add-nodes s set)) (now (answer .entry)) [] (now (table .entry)) .answer ⌝ }
-    ensures { λ _. ⌜ now (table .exit) ≡ commanded caller (within (add-nodes s set)) (now (answer .entry)) [] (now (table .entry)) .table ⌝ }
+    ensures { λ r. ⌜ r ≡ commanded caller (Within (AddNodes s set)) (now (answer .entry)) [] (now (table .entry)) .returned ⌝ }
+    ensures { λ _. ⌜ now (answer .exit) ≡ commanded caller (Within (AddNodes s set)) (now (answer .entry)) [] (now (table .entry)) .answer ⌝ }
+    ensures { λ _. ⌜ now (table .exit) ≡ commanded caller (Within (AddNodes s set)) (now (answer .entry)) [] (now (table .entry)) .table ⌝ }
 {
     if answer.len() < ANSWER_WORDS {
         return NO_ROOM;
@@ -251,9 +252,9 @@ pub extern "C" fn sgroup_remove_nodes(
     set: u64,
     answer: &mut [u64],
 ) -> u32
-    ensures { λ r. ⌜ r ≡ commanded caller (remove-nodes s set) (now (answer .entry)) [] (now (table .entry)) .returned ⌝ }
-    ensures { λ _. ⌜ now (answer .exit) ≡ commanded caller (remove-nodes s set) (now (answer .entry)) [] (now (table .entry)) .answer ⌝ }
-    ensures { λ _. ⌜ now (table .exit) ≡ commanded caller (remove-nodes s set) (now (answer .entry)) [] (now (table .entry)) .table ⌝ }
+    ensures { λ r. ⌜ r ≡ commanded caller (RemoveNodes s set) (now (answer .entry)) [] (now (table .entry)) .returned ⌝ }
+    ensures { λ _. ⌜ now (answer .exit) ≡ commanded caller (RemoveNodes s set) (now (answer .entry)) [] (now (table .entry)) .answer ⌝ }
+    ensures { λ _. ⌜ now (table .exit) ≡ commanded caller (RemoveNodes s set) (now (answer .entry)) [] (now (table .entry)) .table ⌝ }
 {
     if answer.len() < ANSWER_WORDS {
         return NO_ROOM;
@@ -269,9 +270,9 @@ pub extern "C" fn sgroup_delete_s_group(
     s: u32,
     answer: &mut [u64],
 ) -> u32
-    ensures { λ r. ⌜ r ≡ commanded caller (delete-s-group s) (now (answer .entry)) [] (now (table .entry)) .returned ⌝ }
-    ensures { λ _. ⌜ now (answer .exit) ≡ commanded caller (delete-s-group s) (now (answer .entry)) [] (now (table .entry)) .answer ⌝ }
-    ensures { λ _. ⌜ now (table .exit) ≡ commanded caller (delete-s-group s) (now (answer .entry)) [] (now (table .entry)) .table ⌝ }
+    ensures { λ r. ⌜ r ≡ commanded caller (DeleteSGroup s) (now (answer .entry)) [] (now (table .entry)) .returned ⌝ }
+    ensures { λ _. ⌜ now (answer .exit) ≡ commanded caller (DeleteSGroup s) (now (answer .entry)) [] (now (table .entry)) .answer ⌝ }
+    ensures { λ _. ⌜ now (table .exit) ≡ commanded caller (DeleteSGroup s) (now (answer .entry)) [] (now (table .entry)) .table ⌝ }
 {
     if answer.len() < ANSWER_WORDS {
         return NO_ROOM;
@@ -282,8 +283,8 @@ pub extern "C" fn sgroup_delete_s_group(
 // The nodes of the caller's groups, and how many they are.
 #[no_mangle]
 pub extern "C" fn sgroup_own_nodes(table: &[u64], caller: u32, answer: &mut [u64]) -> u32
-    ensures { λ r. ⌜ r ≡ commanded caller own-nodes (now (answer .entry)) [] (now (table .entry)) .returned ⌝ }
-    ensures { λ _. ⌜ now (answer .exit) ≡ commanded caller own-nodes (now (answer .entry)) [] (now (table .entry)) .answer ⌝ }
+    ensures { λ r. ⌜ r ≡ commanded caller OwnNodes (now (answer .entry)) [] (now (table .entry)) .returned ⌝ }
+    ensures { λ _. ⌜ now (answer .exit) ≡ commanded caller OwnNodes (now (answer .entry)) [] (now (table .entry)) .answer ⌝ }
 {
     if answer.len() < ANSWER_WORDS {
         return NO_ROOM;
@@ -299,9 +300,9 @@ pub extern "C" fn sgroup_own_s_groups(
     out: &mut [u64],
     answer: &mut [u64],
 ) -> u32
-    ensures { λ r. ⌜ r ≡ commanded caller own-s-groups (now (answer .entry)) (now (out .entry)) (now (table .entry)) .returned ⌝ }
-    ensures { λ _. ⌜ now (answer .exit) ≡ commanded caller own-s-groups (now (answer .entry)) (now (out .entry)) (now (table .entry)) .answer ⌝ }
-    ensures { λ _. ⌜ now (out .exit) ≡ commanded caller own-s-groups (now (answer .entry)) (now (out .entry)) (now (table .entry)) .list ⌝ }
+    ensures { λ r. ⌜ r ≡ commanded caller OwnSGroups (now (answer .entry)) (now (out .entry)) (now (table .entry)) .returned ⌝ }
+    ensures { λ _. ⌜ now (answer .exit) ≡ commanded caller OwnSGroups (now (answer .entry)) (now (out .entry)) (now (table .entry)) .answer ⌝ }
+    ensures { λ _. ⌜ now (out .exit) ≡ commanded caller OwnSGroups (now (answer .entry)) (now (out .entry)) (now (table .entry)) .list ⌝ }
 {
     if answer.len() < ANSWER_WORDS {
         return NO_ROOM;

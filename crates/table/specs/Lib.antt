@@ -1,3 +1,3 @@
-pub mod NamesReading
-pub mod Reading
+pub mod NamesTestMeaning
+pub mod TestMeaning
 pub mod Verdict

@@ -13,10 +13,10 @@ use Rattle.semantics.specs.Soundness.{word, size-of, hidden-of, count-of}
 use Rattle.semantics.specs.Test.{sound}
 use Rattle.semantics.specs.Agree.{sound-iff}
 use Rattle.semantics.specs.Truth.{unless}
-use Rattle.wiring.specs.Tests.{free-sound}
-use Rattle.wiring.specs.Below.{tests}
-use Rattle.parts.specs.Tests.{members-part, links-part, free-part, head-right, loose-in, parts-right}
-use Rattle.table.specs.Reading.{loose-of, Right, right-sound, sound-right}
+use Rattle.free_test.specs.WireTests.{free-sound}
+use Rattle.free_test.specs.Below.{tests}
+use Rattle.groups_test.specs.GroupTests.{members-part, links-part, free-part, head-right, loose-in, parts-right}
+use Rattle.table.specs.TestMeaning.{loose-of, Right, right-sound, sound-right}
 
 -- what a right head says of the sizes
 pub record Small (t : List ℕ) : Type 0 where

@@ -4,7 +4,9 @@ ghost use Prim.Native.Nat.{_≤_};
 ghost use lib.ListN.{length};
 ghost use Rattle.semantics.specs.Sizes.{group-limit, names-per-group, table-words};
 ghost use Rattle.semantics.specs.Test.{sound};
-ghost use Rattle.parts.specs.Tests.{head-right, unused-zero, loose-in, parts-right};
+ghost use Rattle.groups_test.specs.GroupTests.{head-right, unused-zero, loose-in, parts-right};
+use free_test::all_zero;
+use free_test::free_sound;
 use layout::BODIES_AT;
 use layout::CONTENTS_AT;
 use layout::COUNT_AT;
@@ -18,9 +20,7 @@ use layout::NODE_LIMIT;
 use layout::SIZE_AT;
 use layout::SPARE_AT;
 use layout::TABLE_WORDS;
-use mutual::links_sound;
-use wiring::all_zero;
-use wiring::free_sound;
+use links_test::links_sound;
 
 // Whether the head is right: a roster size in range, hidden nodes on the roster, no more s_groups than there is room for, zero.
 fn head_sound(size: u64, hidden: u64, count: u64, spare: u64) -> bool
@@ -61,18 +61,18 @@ fn parts_sound(t: &[u64], g: usize, n: u32) -> bool
     requires { ⌜ (length (now t) ≡ table-words names-per-group) × (g ≤ group-limit) ⌝ }
     ensures { λ r. ⌜ r ≡ parts-right names-per-group (now (t .entry)) g n ⌝ }
 {
-    let contents = parts::contents_sound(t, g);
-    let members = parts::members_sound(t, g, n);
+    let contents = groups_test::contents_sound(t, g);
+    let members = groups_test::members_sound(t, g, n);
     let unused = unused_zero(t, g);
     let links = links_sound(&t[LINKS_AT..FREE_AT], n);
-    let met = parts::members_met(t, g);
+    let met = groups_test::members_met(t, g);
     let free = free_sound(
         &t[LINKS_AT..FREE_AT],
         &t[FREE_AT..BODIES_AT],
         loose(t, g, n),
         n,
     );
-    let names = parts::names_sound(t, g, n);
+    let names = groups_test::names_sound(t, g, n);
     contents & (members & (unused & (links & (met & (free & names)))))
 }
 

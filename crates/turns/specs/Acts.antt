@@ -6,11 +6,11 @@ use Prim.Native.Nat.{ℕ, _≤_}
 use native.Mathlib.Omega.{arith}
 use lib.ListN.{length, take, drop, length-append}
 use lib.Seq.{take-at}
-use Rattle.semantics.specs.Commands.{Command}
+use Rattle.commands.specs.declared.Command.{Command}
 use Rattle.semantics.specs.Call.{Call, call, listed-over}
-use Rattle.semantics.specs.declared.Answer.{Answer}
-use Rattle.words.specs.Commands.{command-of}
-use Rattle.print.specs.Lines.{answer-line}
+use Rattle.answers.specs.declared.Answer.{Answer}
+use Rattle.forms.specs.Forms.{command-of}
+use Rattle.print.specs.Printed.{answer-line}
 use Rattle.turns.specs.Turns.{list-room, told}
 use Rattle.turns.specs.Lists.{count-of, lists, call-count, call-bare}
 use Rattle.turns.specs.Reads.{only-reads, call-roomless, call-reads}

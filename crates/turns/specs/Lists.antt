@@ -12,18 +12,22 @@ use Rattle.nodes.specs.Sets.{node-limit, has, beyond, count}
 use Rattle.entries.specs.Entries.{host, lookup, holds-pid}
 use Rattle.semantics.specs.Sizes.{group-limit, names-per-group, group-names, table-words}
 use Rattle.semantics.specs.State.{Group, State, find}
-use Rattle.semantics.specs.Commands.{Command, GroupCommand, within, register-name, re-register-name, unregister-name, registered-names, whereis-name, new-s-group, add-nodes, whereis-name-at, send, send-name, send-at, remove-nodes, delete-s-group, own-nodes, own-s-groups}
-use Rattle.semantics.specs.Commands.{answer-of, bad-group, held}
+use Rattle.commands.specs.declared.Command.{Command}
+use Rattle.commands.specs.declared.Command.the-variants.{Within, WhereisNameAt, Send, SendName, SendAt, RemoveNodes, DeleteSGroup, OwnNodes, OwnSGroups}
+use Rattle.commands.specs.declared.GroupCommand.{GroupCommand}
+use Rattle.commands.specs.declared.GroupCommand.the-variants.{RegisterName, ReRegisterName, UnregisterName, RegisteredNames, WhereisName, NewSGroup, AddNodes}
+use Rattle.answers.specs.Answers.{answer-of}
+use Rattle.semantics.specs.Ranges.{bad-group, held}
 use Rattle.semantics.specs.Steps.{Outcome, Effect, keep, done, say, listed, as-member, pid-or-undefined, full, name-words, inside, outcome, target, group-step}
 use Rattle.semantics.specs.Steps.{Result, reply, ask, tell, asking, for-member, own-set, own-list, rule, step}
 use Rattle.semantics.specs.Table.{state-of}
 use Rattle.semantics.specs.Test.{sound}
 use Rattle.semantics.specs.Call.{Call, refused, written, call, opening}
-use Rattle.semantics.specs.declared.Answer.{Answer}
-use Rattle.semantics.specs.declared.Value.{Value}
-use Rattle.semantics.specs.declared.Value.the-variants.{Ok, True, False, Error, Undefined, Pid, Grouped, Nodes, Listed}
-use Rattle.semantics.specs.declared.Reason.{Reason}
-use Rattle.semantics.specs.declared.Reason.the-variants.{Done, TableLength, RosterSize, Unsound, CallerUnknown, GroupNameRange, NameZero, NodeUnknown, GroupUnknown, NotMember, NameTaken, PidTaken, NotRegistered, NamespaceFull, CallerOutside, GroupTaken, GroupsFull, RunShort}
+use Rattle.answers.specs.declared.Answer.{Answer}
+use Rattle.answers.specs.declared.Value.{Value}
+use Rattle.answers.specs.declared.Value.the-variants.{Ok, True, False, Error, Undefined, Pid, Grouped, Nodes, Listed}
+use Rattle.answers.specs.declared.Reason.{Reason}
+use Rattle.answers.specs.declared.Reason.the-variants.{Done, TableLength, RosterSize, Unsound, CallerUnknown, GroupNameRange, NameZero, NodeUnknown, GroupUnknown, NotMember, NameTaken, PidTaken, NotRegistered, NamespaceFull, CallerOutside, GroupTaken, GroupsFull, RunShort}
 
 -- how many words a value says that its list has
 abbrev pub count-of : Value → ℕ
@@ -39,24 +43,24 @@ count-of (Listed k) = k
 
 -- the commands that answer with a list
 abbrev pub lists-names : GroupCommand → Bool
-lists-names (register-name s n p) = false
-lists-names (re-register-name s n p) = false
-lists-names (unregister-name s n) = false
-lists-names (whereis-name s n) = false
-lists-names (registered-names s) = true
-lists-names (add-nodes s set) = false
-lists-names (new-s-group s set) = false
+lists-names (RegisterName s n p) = false
+lists-names (ReRegisterName s n p) = false
+lists-names (UnregisterName s n) = false
+lists-names (WhereisName s n) = false
+lists-names (RegisteredNames s) = true
+lists-names (AddNodes s set) = false
+lists-names (NewSGroup s set) = false
 
 abbrev pub lists : Command → Bool
-lists (within c) = lists-names c
-lists (whereis-name-at j s n) = false
-lists (send-at j s n) = false
-lists (send p) = false
-lists (send-name s n) = false
-lists (remove-nodes s set) = false
-lists (delete-s-group s) = false
-lists own-nodes = false
-lists own-s-groups = true
+lists (Within c) = lists-names c
+lists (WhereisNameAt j s n) = false
+lists (SendAt j s n) = false
+lists (Send p) = false
+lists (SendName s n) = false
+lists (RemoveNodes s set) = false
+lists (DeleteSGroup s) = false
+lists OwnNodes = false
+lists OwnSGroups = true
 
 -- ---- what holds of every answer and its list, by the cases of the commands
 
@@ -102,7 +106,7 @@ module _ (Q : Answer → List ℕ → Type 0) (plain : (a : Answer) → count-of
 
   insides : (room N G i : ℕ) (c : GroupCommand) (found : Option Group) → (lists-names c ≡ true → (ws : List ℕ) → length ws ≤ room → Q (answer-of (Listed (length ws)) Done) ws) → Of-outcome Q (inside room N G i c found)
   unfolding inside
-  insides room N G i (register-name s n p) found f =
+  insides room N G i (RegisterName s n p) found f =
       or-outcome (eqb n 0) (says Error NameZero refl)
       (or-outcome (leb N (host p)) (says Error NodeUnknown refl)
       (for-members i False found _ refl (λ g.
@@ -110,25 +114,25 @@ module _ (Q : Answer → List ℕ → Type 0) (plain : (a : Answer) → count-of
       (or-outcome (holds-pid p (g .names)) (says False PidTaken refl)
       (or-outcome (full (g .names)) (says False NamespaceFull refl)
       (does _ True refl))))))
-  insides room N G i (re-register-name s n p) found f =
+  insides room N G i (ReRegisterName s n p) found f =
       or-outcome (eqb n 0) (says Error NameZero refl)
       (or-outcome (leb N (host p)) (says Error NodeUnknown refl)
       (for-members i False found _ refl (λ g.
       or-outcome (holds-pid p (g .names)) (says False PidTaken refl)
       (or-outcome (not (held (lookup n (g .names))) && full (g .names)) (says False NamespaceFull refl)
       (does _ True refl)))))
-  insides room N G i (unregister-name s n) found f =
+  insides room N G i (UnregisterName s n) found f =
       or-outcome (eqb n 0) (says Error NameZero refl)
       (for-members i False found _ refl (λ g.
       or-outcome (held (lookup n (g .names))) (does _ True refl) (says True NotRegistered refl)))
-  insides room N G i (whereis-name s n) found f =
+  insides room N G i (WhereisName s n) found f =
       or-outcome (eqb n 0) (says Error NameZero refl)
       (for-members i Undefined found _ refl (λ g. says (pid-or-undefined (lookup n (g .names))) _ (pid-plain (lookup n (g .names)))))
-  insides room N G i (registered-names s) found f = for-members i (Listed 0) found _ refl (λ g. fitting room (name-words s (g .names)) (f refl _))
-  insides room N G i (add-nodes s set) found f =
+  insides room N G i (RegisteredNames s) found f = for-members i (Listed 0) found _ refl (λ g. fitting room (name-words s (g .names)) (f refl _))
+  insides room N G i (AddNodes s set) found f =
       or-outcome (beyond set N) (says Error NodeUnknown refl)
       (for-members i Error found _ refl (λ g. does _ (Grouped s set) refl))
-  insides room N G i (new-s-group s set) found f =
+  insides room N G i (NewSGroup s set) found f =
       or-outcome (beyond set N) (says Error NodeUnknown refl)
       (or-outcome (not (has set i)) (says Error CallerOutside refl)
       (or-outcome (held found) (says Error GroupTaken refl)
@@ -166,22 +170,22 @@ module _ (Q : Answer → List ℕ → Type 0) (plain : (a : Answer) → count-of
 
   rules : (room i : ℕ) (c : Command) (st : State) → (lists c ≡ true → (ws : List ℕ) → length ws ≤ room → Q (answer-of (Listed (length ws)) Done) ws) → Of-result Q (rule room i c st)
   unfolding rule
-  rules room i (within c) st f = groups room i c st f
-  rules room i (whereis-name-at j s n) st f = asks j s n st _ (looks j s n st _)
-  rules room i (send-at j s n) st f = asks j s n st _ (looks j s n st _)
-  rules room i (send p) st f = or-result (leb (st .size) (host p)) (replies Error NodeUnknown st refl) (replies (Pid p) Done _ refl)
-  rules room i (send-name s n) st f =
+  rules room i (Within c) st f = groups room i c st f
+  rules room i (WhereisNameAt j s n) st f = asks j s n st _ (looks j s n st _)
+  rules room i (SendAt j s n) st f = asks j s n st _ (looks j s n st _)
+  rules room i (Send p) st f = or-result (leb (st .size) (host p)) (replies Error NodeUnknown st refl) (replies (Pid p) Done _ refl)
+  rules room i (SendName s n) st f =
       or-result (bad-group s) (replies Error GroupNameRange st refl)
       (or-result (eqb n 0) (replies Error NameZero st refl) (looks i s n st _))
-  rules room i (remove-nodes s set) st f =
+  rules room i (RemoveNodes s set) st f =
       or-result (bad-group s) (replies Error GroupNameRange st refl)
       (or-result (beyond set (st .size)) (replies Error NodeUnknown st refl)
       (members i (find s (st .groups)) st _ (λ g. replies True Done _ refl)))
-  rules room i (delete-s-group s) st f =
+  rules room i (DeleteSGroup s) st f =
       or-result (bad-group s) (replies Error GroupNameRange st refl)
       (members i (find s (st .groups)) st _ (λ g. replies True Done _ refl))
-  rules room i own-nodes st f = replies (Nodes (own-set i st) (count (own-set i st))) Done st refl
-  rules room i own-s-groups st f = record { holds = fitting room (own-list i (st .groups)) (f refl _) .holds }
+  rules room i OwnNodes st f = replies (Nodes (own-set i st) (count (own-set i st))) Done st refl
+  rules room i OwnSGroups st f = record { holds = fitting room (own-list i (st .groups)) (f refl _) .holds }
 
   -- ---- calls
 

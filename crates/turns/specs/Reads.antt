@@ -10,15 +10,18 @@ use lib.ListN.{length}
 use Rattle.nodes.specs.Sets.{has}
 use Rattle.semantics.specs.Sizes.{names-per-group, table-words}
 use Rattle.semantics.specs.State.{Group, State, find}
-use Rattle.semantics.specs.Commands.{Command, GroupCommand, within, register-name, re-register-name, unregister-name, registered-names, whereis-name, new-s-group, add-nodes, whereis-name-at, send, send-name, send-at, remove-nodes, delete-s-group, own-nodes, own-s-groups}
-use Rattle.semantics.specs.Commands.{bad-group}
+use Rattle.commands.specs.declared.Command.{Command}
+use Rattle.commands.specs.declared.Command.the-variants.{Within, WhereisNameAt, Send, SendName, SendAt, RemoveNodes, DeleteSGroup, OwnNodes, OwnSGroups}
+use Rattle.commands.specs.declared.GroupCommand.{GroupCommand}
+use Rattle.commands.specs.declared.GroupCommand.the-variants.{RegisterName, ReRegisterName, UnregisterName, RegisteredNames, WhereisName, NewSGroup, AddNodes}
+use Rattle.semantics.specs.Ranges.{bad-group}
 use Rattle.semantics.specs.Steps.{Outcome, Effect, keep, error, listed, as-member, name-words, inside, outcome, apply, target, group-step, rule, step}
 use Rattle.semantics.specs.Table.{layout, state-of}
 use Rattle.semantics.specs.Test.{sound}
 use Rattle.semantics.specs.Agree.{test-regular}
 use Rattle.semantics.specs.Call.{refused, written, call}
-use Rattle.semantics.specs.declared.Value.{Value}
-use Rattle.semantics.specs.declared.Reason.the-variants.{TableLength, Unsound, CallerUnknown}
+use Rattle.answers.specs.declared.Value.{Value}
+use Rattle.answers.specs.declared.Reason.the-variants.{TableLength, Unsound, CallerUnknown}
 use Rattle.turns.specs.Lists.{lists}
 
 -- ---- the length of the run
@@ -26,41 +29,41 @@ use Rattle.turns.specs.Lists.{lists}
 -- a command without a list does not feel it
 pub call-roomless : (room i : ℕ) (c : Command) (t : List ℕ) → lists c ≡ false → call room i c t ≡ call 0 i c t
 unfolding call step rule group-step outcome inside
-call-roomless room i (within (register-name s n p)) t e = refl
-call-roomless room i (within (re-register-name s n p)) t e = refl
-call-roomless room i (within (unregister-name s n)) t e = refl
-call-roomless room i (within (whereis-name s n)) t e = refl
-call-roomless room i (within (registered-names s)) t e = absurd (let z : _≡_ {A = ℕ} 0 1 = cc in omega arith)
-call-roomless room i (within (add-nodes s set)) t e = refl
-call-roomless room i (within (new-s-group s set)) t e = refl
-call-roomless room i (whereis-name-at j s n) t e = refl
-call-roomless room i (send-at j s n) t e = refl
-call-roomless room i (send p) t e = refl
-call-roomless room i (send-name s n) t e = refl
-call-roomless room i (remove-nodes s set) t e = refl
-call-roomless room i (delete-s-group s) t e = refl
-call-roomless room i own-nodes t e = refl
-call-roomless room i own-s-groups t e = absurd (let z : _≡_ {A = ℕ} 0 1 = cc in omega arith)
+call-roomless room i (Within (RegisterName s n p)) t e = refl
+call-roomless room i (Within (ReRegisterName s n p)) t e = refl
+call-roomless room i (Within (UnregisterName s n)) t e = refl
+call-roomless room i (Within (WhereisName s n)) t e = refl
+call-roomless room i (Within (RegisteredNames s)) t e = absurd (let z : _≡_ {A = ℕ} 0 1 = cc in omega arith)
+call-roomless room i (Within (AddNodes s set)) t e = refl
+call-roomless room i (Within (NewSGroup s set)) t e = refl
+call-roomless room i (WhereisNameAt j s n) t e = refl
+call-roomless room i (SendAt j s n) t e = refl
+call-roomless room i (Send p) t e = refl
+call-roomless room i (SendName s n) t e = refl
+call-roomless room i (RemoveNodes s set) t e = refl
+call-roomless room i (DeleteSGroup s) t e = refl
+call-roomless room i OwnNodes t e = refl
+call-roomless room i OwnSGroups t e = absurd (let z : _≡_ {A = ℕ} 0 1 = cc in omega arith)
 
 -- ---- what is kept
 
 -- the commands that only read
 abbrev pub only-reads : Command → Bool
-only-reads (within (register-name s n p)) = false
-only-reads (within (re-register-name s n p)) = false
-only-reads (within (unregister-name s n)) = false
-only-reads (within (whereis-name s n)) = true
-only-reads (within (registered-names s)) = true
-only-reads (within (add-nodes s set)) = false
-only-reads (within (new-s-group s set)) = false
-only-reads (whereis-name-at j s n) = false
-only-reads (send-at j s n) = false
-only-reads (send p) = false
-only-reads (send-name s n) = false
-only-reads (remove-nodes s set) = false
-only-reads (delete-s-group s) = false
-only-reads own-nodes = true
-only-reads own-s-groups = true
+only-reads (Within (RegisterName s n p)) = false
+only-reads (Within (ReRegisterName s n p)) = false
+only-reads (Within (UnregisterName s n)) = false
+only-reads (Within (WhereisName s n)) = true
+only-reads (Within (RegisteredNames s)) = true
+only-reads (Within (AddNodes s set)) = false
+only-reads (Within (NewSGroup s set)) = false
+only-reads (WhereisNameAt j s n) = false
+only-reads (SendAt j s n) = false
+only-reads (Send p) = false
+only-reads (SendName s n) = false
+only-reads (RemoveNodes s set) = false
+only-reads (DeleteSGroup s) = false
+only-reads OwnNodes = true
+only-reads OwnSGroups = true
 
 effect-if : (t : Bool) (x y : Outcome) → x .effect ≡ keep → y .effect ≡ keep → cond t x y .effect ≡ keep
 effect-if true x y p q = p
@@ -74,18 +77,18 @@ effect-listed : (room : ℕ) (ws : List ℕ) → listed room ws .effect ≡ keep
 effect-listed room ws = effect-if (ltb room (length ws)) _ _ refl refl
 
 -- an s_group is kept
-kept : (room N G i : ℕ) (c : GroupCommand) (found : Option Group) → only-reads (within c) ≡ true → inside room N G i c found .effect ≡ keep
+kept : (room N G i : ℕ) (c : GroupCommand) (found : Option Group) → only-reads (Within c) ≡ true → inside room N G i c found .effect ≡ keep
 unfolding inside
-kept room N G i (register-name s n p) found e = absurd (let z : _≡_ {A = ℕ} 0 1 = cc in omega arith)
-kept room N G i (re-register-name s n p) found e = absurd (let z : _≡_ {A = ℕ} 0 1 = cc in omega arith)
-kept room N G i (unregister-name s n) found e = absurd (let z : _≡_ {A = ℕ} 0 1 = cc in omega arith)
-kept room N G i (whereis-name s n) found e = effect-if (eqb n 0) _ _ refl (effect-member i _ found _ (λ g. refl))
-kept room N G i (registered-names s) found e = effect-member i _ found _ (λ g. effect-listed room (name-words s (g .names)))
-kept room N G i (add-nodes s set) found e = absurd (let z : _≡_ {A = ℕ} 0 1 = cc in omega arith)
-kept room N G i (new-s-group s set) found e = absurd (let z : _≡_ {A = ℕ} 0 1 = cc in omega arith)
+kept room N G i (RegisterName s n p) found e = absurd (let z : _≡_ {A = ℕ} 0 1 = cc in omega arith)
+kept room N G i (ReRegisterName s n p) found e = absurd (let z : _≡_ {A = ℕ} 0 1 = cc in omega arith)
+kept room N G i (UnregisterName s n) found e = absurd (let z : _≡_ {A = ℕ} 0 1 = cc in omega arith)
+kept room N G i (WhereisName s n) found e = effect-if (eqb n 0) _ _ refl (effect-member i _ found _ (λ g. refl))
+kept room N G i (RegisteredNames s) found e = effect-member i _ found _ (λ g. effect-listed room (name-words s (g .names)))
+kept room N G i (AddNodes s set) found e = absurd (let z : _≡_ {A = ℕ} 0 1 = cc in omega arith)
+kept room N G i (NewSGroup s set) found e = absurd (let z : _≡_ {A = ℕ} 0 1 = cc in omega arith)
 
 -- a state is kept
-group-kept : (room i : ℕ) (c : GroupCommand) (st : State) → only-reads (within c) ≡ true → group-step room i c st .next ≡ st
+group-kept : (room i : ℕ) (c : GroupCommand) (st : State) → only-reads (Within c) ≡ true → group-step room i c st .next ≡ st
 unfolding group-step outcome apply
 group-kept room i c st e =
     ap (λ (f : Effect). apply (target c) f st)
@@ -94,15 +97,15 @@ group-kept room i c st e =
 
 rule-kept : (room i : ℕ) (c : Command) (st : State) → only-reads c ≡ true → rule room i c st .next ≡ st
 unfolding rule
-rule-kept room i (within c) st e = group-kept room i c st e
-rule-kept room i (whereis-name-at j s n) st e = absurd (let z : _≡_ {A = ℕ} 0 1 = cc in omega arith)
-rule-kept room i (send-at j s n) st e = absurd (let z : _≡_ {A = ℕ} 0 1 = cc in omega arith)
-rule-kept room i (send p) st e = absurd (let z : _≡_ {A = ℕ} 0 1 = cc in omega arith)
-rule-kept room i (send-name s n) st e = absurd (let z : _≡_ {A = ℕ} 0 1 = cc in omega arith)
-rule-kept room i (remove-nodes s set) st e = absurd (let z : _≡_ {A = ℕ} 0 1 = cc in omega arith)
-rule-kept room i (delete-s-group s) st e = absurd (let z : _≡_ {A = ℕ} 0 1 = cc in omega arith)
-rule-kept room i own-nodes st e = refl
-rule-kept room i own-s-groups st e = refl
+rule-kept room i (Within c) st e = group-kept room i c st e
+rule-kept room i (WhereisNameAt j s n) st e = absurd (let z : _≡_ {A = ℕ} 0 1 = cc in omega arith)
+rule-kept room i (SendAt j s n) st e = absurd (let z : _≡_ {A = ℕ} 0 1 = cc in omega arith)
+rule-kept room i (Send p) st e = absurd (let z : _≡_ {A = ℕ} 0 1 = cc in omega arith)
+rule-kept room i (SendName s n) st e = absurd (let z : _≡_ {A = ℕ} 0 1 = cc in omega arith)
+rule-kept room i (RemoveNodes s set) st e = absurd (let z : _≡_ {A = ℕ} 0 1 = cc in omega arith)
+rule-kept room i (DeleteSGroup s) st e = absurd (let z : _≡_ {A = ℕ} 0 1 = cc in omega arith)
+rule-kept room i OwnNodes st e = refl
+rule-kept room i OwnSGroups st e = refl
 
 step-kept : (room i : ℕ) (c : Command) (st : State) → only-reads c ≡ true → step room i c st .next ≡ st
 unfolding step

@@ -2,10 +2,10 @@
 use mathlib.Core.List.{List}
 use Prim.Native.Nat.{ℕ}
 use Rattle.semantics.specs.Call.{Call, call, opening}
-use Rattle.words.specs.Commands.{command-of}
+use Rattle.forms.specs.Forms.{command-of}
 use Rattle.line.specs.declared.Request.{Request}
 use Rattle.line.specs.declared.Request.the-variants.{Open, Command, Unfit}
-use Rattle.print.specs.Lines.{answer-line, bad-line}
+use Rattle.print.specs.Printed.{answer-line, bad-line}
 
 -- the run that is lent for a list has so many words
 abbrev pub list-room : ℕ

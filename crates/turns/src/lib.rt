@@ -5,9 +5,9 @@ ghost use Rattle.print.specs.Sheets.{sheet, put};
 ghost use Rattle.turns.specs.Turns.{list-room, request-turn};
 ghost use Rattle.turns.specs.Lists.{count-of};
 ghost use Rattle.turns.specs.Acts.{after, acts};
+use answers::Answer;
+use answers::Value;
 use line::Request;
-use semantics::Answer;
-use semantics::Value;
 
 // The command of a number; a list goes to `words`.
 fn act(
@@ -86,7 +86,7 @@ fn opened(table: &mut [u64], words: &[u64], out: &mut [u8], at: usize, n: u32, h
     ensures { λ p. ⌜ (sheet (now (out .exit)) p ≡ put (sheet (now (out .entry)) at) (request-turn (now (table .entry)) (Request.Open n hidden) .text))
         × (now (table .exit) ≡ request-turn (now (table .entry)) (Request.Open n hidden) .table) ⌝ }
 {
-    let answer = fresh::open(table, n, hidden);
+    let answer = opening::open(table, n, hidden);
     print::put_answer(out, at, &words[..0], answer)
 }
 

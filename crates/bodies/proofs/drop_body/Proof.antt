@@ -7,7 +7,7 @@ use Prim.Native.Nat.{ℕ, _+_, _-_, _≤_}
 use lib.ListN.{length, take, drop, replicate, length-set, length-drop, drop-of-length-le}
 use lib.Seq.{take-all}
 use Rattle.moves.specs.Moves.{drop-first}
-use Rattle.moves.specs.Turns.{down, down-none, down-turn, down-end}
+use Rattle.moves.specs.Shifting.{down, down-none, down-turn, down-end}
 use Rattle.semantics.specs.Sizes.{names-per-group}
 use Rattle.bodies.proofs.drop_body.Statement.{statement}
 use Rattle.bodies.proofs.drop_body.Tie as tie

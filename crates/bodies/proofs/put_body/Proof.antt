@@ -7,7 +7,7 @@ use Prim.Native.Nat.{ℕ, _+_, _-_, _≤_}
 use lib.ListN.{length, take, drop, replicate, length-set}
 use lib.Seq.{length-take-le}
 use Rattle.moves.specs.Moves.{put-first}
-use Rattle.moves.specs.Turns.{up, up-none, up-turn, up-end}
+use Rattle.moves.specs.Shifting.{up, up-none, up-turn, up-end}
 use Rattle.semantics.specs.Sizes.{names-per-group}
 use Rattle.bodies.proofs.put_body.Statement.{statement}
 use Rattle.bodies.proofs.put_body.Tie as tie

@@ -8,11 +8,11 @@ use Rattle.semantics.specs.Table.{state-of}
 use Rattle.place.specs.declared.Access.the-variants.{Member, Denied}
 use Rattle.place.specs.Seats.{Open}
 use Rattle.place.specs.Sound.{here, regular, base, nodes-few, granted-here}
-use Rattle.steps.specs.Judged.{refused, denied, step-add}
-use Rattle.steps.specs.Calls.{says-kept}
-use Rattle.wires.specs.Loosed.{regular-rostered}
+use Rattle.returns.specs.Judged.{refused, denied, step-add}
+use Rattle.returns.specs.Shown.{says-kept}
+use Rattle.connecting.specs.Loosed.{regular-rostered}
 use Rattle.grouping.specs.Grouping.{seat-few, add-joined}
-use Rattle.judge.proofs.Reasons.{not-done}
+use Rattle.inputs.proofs.Reasons.{not-done}
 use Rattle.grouping.proofs.add_nodes.Statement.{statement}
 use Rattle.grouping.proofs.add_nodes.Tie as tie
 

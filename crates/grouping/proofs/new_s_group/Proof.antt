@@ -5,16 +5,16 @@ use mathlib.Core.Path.{sym, ap, _∙_}
 use mathlib.Core.Bool.{false}
 use native.Mathlib.Omega.{arith}
 use lib.ListN.{length, getD, length-append}
-use Rattle.semantics.specs.Commands.{held}
-use Rattle.semantics.specs.Laid.{Laid, count-is}
+use Rattle.semantics.specs.Ranges.{held}
+use Rattle.semantics.specs.WordsOfState.{Laid, count-is}
 use Rattle.semantics.specs.Sizes.{names-per-group}
 use Rattle.place.specs.declared.Place.the-variants.{At, Gap}
 use Rattle.place.specs.Seats.{Room}
-use Rattle.judge.specs.Passed.{creation-done}
+use Rattle.inputs.specs.Passed.{creation-done}
 use Rattle.place.specs.Sound.{here, regular, base, nodes-few, sought-here}
-use Rattle.wires.specs.Loosed.{regular-rostered}
+use Rattle.connecting.specs.Loosed.{regular-rostered}
 use Rattle.grouping.specs.Grouping.{joined, new-refused, new-made, new-taken}
-use Rattle.judge.proofs.Reasons.{not-done}
+use Rattle.inputs.proofs.Reasons.{not-done}
 use Rattle.grouping.proofs.new_s_group.Statement.{statement}
 use Rattle.grouping.proofs.new_s_group.Tie as tie
 

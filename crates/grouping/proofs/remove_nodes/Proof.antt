@@ -9,10 +9,10 @@ use Rattle.semantics.specs.Steps.{become-free}
 use Rattle.place.specs.declared.Access.the-variants.{Member, Denied}
 use Rattle.place.specs.Seats.{Open}
 use Rattle.place.specs.Sound.{here, base, groups-few, nodes-few, granted-here, seat-below}
-use Rattle.steps.specs.Judged.{refused}
-use Rattle.steps.specs.Calls.{says-kept}
+use Rattle.returns.specs.Judged.{refused}
+use Rattle.returns.specs.Shown.{says-kept}
 use Rattle.grouping.specs.Grouping.{seat-few, turned-away, step-removed, remove-left, remove-all, apart-deleted, apart-left}
-use Rattle.judge.proofs.Reasons.{not-done}
+use Rattle.inputs.proofs.Reasons.{not-done}
 use Rattle.grouping.proofs.remove_nodes.Statement.{statement}
 use Rattle.grouping.proofs.remove_nodes.Tie as tie
 

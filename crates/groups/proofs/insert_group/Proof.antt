@@ -11,7 +11,7 @@ use Rattle.semantics.specs.Sizes.{group-limit, names-per-group, contents-at, me
 use Rattle.semantics.specs.Table.{contents, bodies, sections}
 use Rattle.semantics.specs.Bodies.{length-bodies, bodies-append}
 use Rattle.semantics.specs.Sections.{store}
-use Rattle.semantics.specs.Laid.{count-is}
+use Rattle.semantics.specs.WordsOfState.{count-is}
 use Rattle.groups.specs.Shifted.{goes-in}
 use Rattle.groups.specs.Regrouped.{mems, length-mems, mems-append, inserted}
 use Rattle.groups.proofs.insert_group.Statement.{statement}

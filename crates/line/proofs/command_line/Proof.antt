@@ -5,7 +5,7 @@ use Prim.Native.Nat.{_≤_, _<_}
 use native.Mathlib.Omega.{arith}
 use borrow.Author.Tests.{le-leb, lt-leb}
 use lib.ListN.{length}
-use Rattle.fields.specs.Text.{fields}
+use Rattle.text.specs.Text.{fields}
 use Rattle.line.specs.Requests.{command-line}
 use Rattle.line.proofs.command_line.Statement.{statement}
 use Rattle.line.proofs.command_line.Tie as tie

@@ -4,7 +4,7 @@ use borrow.Author.Needs.{needs}
 use mathlib.Core.Path.{_≡_, sym, _∙_}
 use borrow.Author.Tests.{eq-eqb, ne-eqb}
 use lib.ListN.{length}
-use Rattle.fields.specs.Text.{fields}
+use Rattle.text.specs.Text.{fields}
 use Rattle.line.specs.Requests.{open-line}
 use Rattle.line.proofs.open_line.Statement.{statement}
 use Rattle.line.proofs.open_line.Tie as tie

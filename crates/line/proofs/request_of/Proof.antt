@@ -5,9 +5,9 @@ use mathlib.Core.Path.{_≡_, sym, _∙_}
 use mathlib.Core.Bool.{true}
 use borrow.Author.Tests.{le-leb, lt-leb}
 use Rattle.semantics.specs.Test.{same}
-use Rattle.fields.specs.Text.{bytes, fields}
-use Rattle.words.specs.Keys.{differs}
-use Rattle.fields.specs.Text.{field}
+use Rattle.text.specs.Text.{bytes, fields}
+use Rattle.forms.specs.Keys.{differs}
+use Rattle.text.specs.Text.{field}
 use Rattle.line.specs.Requests.{request-in, request-of}
 use Rattle.line.proofs.request_of.Statement.{statement}
 use Rattle.line.proofs.request_of.Tie as tie

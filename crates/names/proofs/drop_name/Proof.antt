@@ -6,7 +6,7 @@ use native.Mathlib.Omega.{arith}
 use Prim.Native.Nat.{_+_, _*_}
 use Rattle.entries.specs.Entries.{lookup}
 use Rattle.semantics.specs.Sizes.{names-per-group, bodies-at}
-use Rattle.names.specs.Names.{counted, names-at}
+use Rattle.names.specs.NamesAt.{counted, names-at}
 use Rattle.names.specs.NamesHere.{changed-here, dropped-here, not-dropped-here, some-name}
 use Rattle.names.proofs.Changes.{was-held, was-absent}
 use Rattle.names.proofs.drop_name.Statement.{statement}

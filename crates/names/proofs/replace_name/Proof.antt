@@ -5,7 +5,7 @@ use mathlib.Core.Path.{refl, _∙_}
 use Prim.Native.Nat.{_+_, _*_}
 use Rattle.entries.specs.Entries.{lookup}
 use Rattle.semantics.specs.Sizes.{names-per-group, bodies-at}
-use Rattle.names.specs.Names.{names-at}
+use Rattle.names.specs.NamesAt.{names-at}
 use Rattle.names.specs.NamesHere.{changed-here, replaced-here}
 use Rattle.names.proofs.Changes.{was-held, was-absent}
 use Rattle.names.proofs.replace_name.Statement.{statement}

@@ -7,12 +7,12 @@ use native.Mathlib.Omega.{arith}
 use Rattle.entries.specs.Entries.{lookup}
 use Rattle.semantics.specs.Sizes.{names-per-group}
 use Rattle.semantics.specs.State.{State}
-use Rattle.semantics.specs.Commands.{held}
-use Rattle.semantics.specs.Names.{not-held}
-use Rattle.semantics.specs.Laid.{Laid}
-use Rattle.names.specs.Names.{Standing, names-at}
+use Rattle.semantics.specs.Ranges.{held}
+use Rattle.semantics.specs.NamesKept.{not-held}
+use Rattle.semantics.specs.WordsOfState.{Laid}
+use Rattle.names.specs.NamesAt.{Standing, names-at}
 use Rattle.names.specs.NamesHere.{standing}
-use Rattle.steps.specs.Settled.{not-replaced, pid-held-already, replaced, no-room-anew, registered-anew}
+use Rattle.returns.specs.Settled.{not-replaced, pid-held-already, replaced, no-room-anew, registered-anew}
 use Rattle.naming.proofs.re_register_in.Statement.{statement}
 use Rattle.naming.proofs.re_register_in.Tie as tie
 

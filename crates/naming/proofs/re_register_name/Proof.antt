@@ -3,11 +3,11 @@
 use borrow.Author.Needs.{needs}
 use native.Mathlib.Omega.{arith}
 use Rattle.semantics.specs.Table.{state-of}
-use Rattle.steps.specs.Judged.{step-re-register}
+use Rattle.returns.specs.Judged.{step-re-register}
 use Rattle.place.specs.Seats.{Open}
 use Rattle.place.specs.Sound.{here, regular, base, nodes-few}
-use Rattle.steps.specs.Ends.{open-below, opened, says-refused, says-denied, says-settled}
-use Rattle.judge.proofs.Reasons.{not-done}
+use Rattle.returns.specs.Ends.{open-below, opened, says-refused, says-denied, says-settled}
+use Rattle.inputs.proofs.Reasons.{not-done}
 use Rattle.naming.proofs.re_register_name.Statement.{statement}
 use Rattle.naming.proofs.re_register_name.Tie as tie
 

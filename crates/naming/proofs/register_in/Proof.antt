@@ -7,12 +7,12 @@ use native.Mathlib.Omega.{arith}
 use Rattle.entries.specs.Entries.{lookup, rank}
 use Rattle.semantics.specs.Sizes.{names-per-group}
 use Rattle.semantics.specs.State.{State}
-use Rattle.semantics.specs.Commands.{held}
-use Rattle.semantics.specs.Names.{not-held}
-use Rattle.semantics.specs.Laid.{Laid}
-use Rattle.names.specs.Names.{Standing, names-at}
+use Rattle.semantics.specs.Ranges.{held}
+use Rattle.semantics.specs.NamesKept.{not-held}
+use Rattle.semantics.specs.WordsOfState.{Laid}
+use Rattle.names.specs.NamesAt.{Standing, names-at}
 use Rattle.names.specs.NamesHere.{standing}
-use Rattle.steps.specs.Settled.{name-taken, pid-taken, no-room, registered}
+use Rattle.returns.specs.Settled.{name-taken, pid-taken, no-room, registered}
 use Rattle.names.proofs.Changes.{found-held, found-absent}
 use Rattle.naming.proofs.register_in.Statement.{statement}
 use Rattle.naming.proofs.register_in.Tie as tie

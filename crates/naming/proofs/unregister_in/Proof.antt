@@ -3,7 +3,7 @@
 use borrow.Author.Needs.{needs}
 use mathlib.Core.Path.{sym, _∙_}
 use Rattle.names.specs.NamesHere.{standing}
-use Rattle.steps.specs.Settled.{unregistered, not-registered}
+use Rattle.returns.specs.Settled.{unregistered, not-registered}
 use Rattle.naming.proofs.unregister_in.Statement.{statement}
 use Rattle.naming.proofs.unregister_in.Tie as tie
 

@@ -4,7 +4,7 @@ use borrow.Author.Needs.{needs}
 use borrow.Author.Tests.{le-ltb}
 use mathlib.Core.Path.{sym, _∙_}
 use Rattle.nodes.specs.Sets.{node-limit}
-use Rattle.nodes.specs.Laws.{has-above}
+use Rattle.nodes.specs.SetLaws.{has-above}
 use Rattle.nodes.proofs.has.Statement.{statement}
 use Rattle.nodes.proofs.has.Tie as tie
 

@@ -3,8 +3,8 @@
 use borrow.Author.Needs.{needs}
 use mathlib.Core.Path.{sym, ap, _∙_}
 use Rattle.nodes.specs.Sets.{inter, rest}
-use Rattle.nodes.specs.Laws.{diff-none}
-use Rattle.nodes.specs.Lowest.{inter-pred}
+use Rattle.nodes.specs.SetLaws.{diff-none}
+use Rattle.nodes.specs.LowestNode.{inter-pred}
 use Rattle.nodes.proofs.rest.Statement.{statement}
 use Rattle.nodes.proofs.rest.Tie as tie
 

@@ -7,7 +7,7 @@ use native.Mathlib.Omega.{arith}
 use lib.ListN.{length, take}
 use lib.Seq.{take-all}
 use Rattle.nodes.specs.Sets.{union, word-at, union-all}
-use Rattle.nodes.specs.Laws.{union-all-take}
+use Rattle.nodes.specs.SetLaws.{union-all-take}
 use Rattle.nodes.proofs.union_all.Statement.{statement}
 use Rattle.nodes.proofs.union_all.Tie as tie
 

@@ -5,7 +5,7 @@ use mathlib.Core.Path.{_≡_}
 use Prim.Native.Nat.{_<_, _^_}
 use native.Mathlib.Omega.{arith}
 use Rattle.nodes.specs.Sets.{node-limit, union, walk, gather, unions-at}
-use Rattle.nodes.specs.Lowest.{rest-less}
+use Rattle.nodes.specs.LowestNode.{rest-less}
 use Rattle.nodes.specs.Walk.{walk-none, walk-rest}
 use Rattle.nodes.proofs.unions_at.Statement.{statement}
 use Rattle.nodes.proofs.unions_at.Tie as tie

@@ -3,7 +3,7 @@
 use borrow.Author.Needs.{needs}
 use mathlib.Core.Path.{sym, ap, _∙_}
 use Rattle.nodes.specs.Sets.{node-limit, diff}
-use Rattle.nodes.specs.Laws.{has-above, without-other}
+use Rattle.nodes.specs.SetLaws.{has-above, without-other}
 use Rattle.nodes.specs.Words.{shl-one}
 use Rattle.nodes.proofs.without.Statement.{statement}
 use Rattle.nodes.proofs.without.Tie as tie

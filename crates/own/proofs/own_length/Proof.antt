@@ -7,7 +7,7 @@ use native.Mathlib.Nat.{sub-zero}
 use native.Mathlib.Omega.{arith}
 use Prim.Native.Nat.{_+_, _-_, _*_, _≤_}
 use lib.ListN.{length, drop}
-use Rattle.own.specs.Own.{own-length}
+use Rattle.own.specs.OwnWords.{own-length}
 use Rattle.own.specs.OwnGroups.{count-more, count-same, count-none}
 use Rattle.own.proofs.own_length.Statement.{statement}
 use Rattle.own.proofs.own_length.Tie as tie

@@ -6,15 +6,15 @@ use native.Mathlib.Omega.{arith}
 use Prim.Native.Nat.{ℕ}
 use lib.ListN.{getD}
 use Rattle.nodes.specs.Sets.{count}
-use Rattle.semantics.specs.Commands.{answer-of}
+use Rattle.answers.specs.Answers.{answer-of}
 use Rattle.semantics.specs.Table.{state-of}
-use Rattle.semantics.specs.declared.Value.the-variants.{Nodes}
-use Rattle.semantics.specs.declared.Reason.the-variants.{Done}
-use Rattle.steps.specs.Judged.{step-own-nodes, refused, passed}
-use Rattle.judge.specs.Passed.{caller-done}
+use Rattle.answers.specs.declared.Value.the-variants.{Nodes}
+use Rattle.answers.specs.declared.Reason.the-variants.{Done}
+use Rattle.returns.specs.Judged.{step-own-nodes, refused, passed}
+use Rattle.inputs.specs.Passed.{caller-done}
 use Rattle.place.specs.Sound.{here, nodes-few}
-use Rattle.steps.specs.Calls.{answers}
-use Rattle.judge.proofs.Reasons.{not-done}
+use Rattle.returns.specs.Shown.{answers}
+use Rattle.inputs.proofs.Reasons.{not-done}
 use Rattle.own.proofs.own_nodes.Statement.{statement}
 use Rattle.own.proofs.own_nodes.Tie as tie
 

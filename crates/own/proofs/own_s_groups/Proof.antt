@@ -9,13 +9,13 @@ use lib.ListN.{length}
 use Rattle.semantics.specs.Steps.{own-list}
 use Rattle.semantics.specs.Table.{state-of}
 use Rattle.semantics.specs.Call.{listed-over}
-use Rattle.steps.specs.Judged.{step-own-s-groups, refused, passed}
+use Rattle.returns.specs.Judged.{step-own-s-groups, refused, passed}
 use Rattle.place.specs.Sound.{here, regular, base, groups-few, nodes-few}
-use Rattle.steps.specs.Calls.{lists}
-use Rattle.steps.specs.Listing.{listed-fits, listed-short}
+use Rattle.returns.specs.Shown.{lists}
+use Rattle.returns.specs.Listing.{listed-fits, listed-short}
 use Rattle.own.specs.OwnGroups.{own-laid, own-count}
-use Rattle.steps.specs.Ends.{heard}
-use Rattle.judge.proofs.Reasons.{not-done}
+use Rattle.returns.specs.Ends.{heard}
+use Rattle.inputs.proofs.Reasons.{not-done}
 use Rattle.own.proofs.own_s_groups.Statement.{statement}
 use Rattle.own.proofs.own_s_groups.Tie as tie
 

@@ -4,7 +4,7 @@ use borrow.Author.Needs.{needs}
 use mathlib.Core.Path.{_∙_}
 use native.Mathlib.Omega.{arith}
 use Rattle.nodes.specs.Sets.{single}
-use Rattle.nodes.specs.Laws.{with-node-in, none-union}
+use Rattle.nodes.specs.SetLaws.{with-node-in, none-union}
 use Rattle.place.specs.Sound.{groups-few}
 use Rattle.own.specs.OwnGroups.{own-free, own-shared, own-alone}
 use Rattle.own.proofs.own_set.Statement.{statement}

@@ -7,7 +7,7 @@ use native.Mathlib.Omega.{arith}
 use Prim.Native.Nat.{ℕ, _-_, _≤_}
 use lib.ListN.{length, getD}
 use Rattle.nodes.specs.Sets.{union}
-use Rattle.own.specs.Own.{shared-members}
+use Rattle.own.specs.OwnWords.{shared-members}
 use Rattle.own.specs.OwnGroups.{share-more, share-same, share-none}
 use Rattle.own.proofs.shared_members.Statement.{statement}
 use Rattle.own.proofs.shared_members.Tie as tie

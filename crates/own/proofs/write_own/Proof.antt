@@ -9,7 +9,7 @@ use Prim.Native.Nat.{ℕ, _+_, _-_, _%_, _≤_, _<_}
 use lib.ListN.{length, getD, set, length-set, length-append}
 use Rattle.semantics.specs.Sizes.{group-names}
 use Rattle.semantics.specs.Call.{listed-over}
-use Rattle.own.specs.Own.{own-words}
+use Rattle.own.specs.OwnWords.{own-words}
 use Rattle.own.specs.OwnGroups.{own-le, write-two, own-more, own-same}
 use Rattle.own.proofs.write_own.Statement.{statement}
 use Rattle.own.proofs.write_own.Tie as tie

@@ -8,7 +8,7 @@ use Prim.Native.Nat.{_+_, _<_}
 use lib.ListN.{getD}
 use Rattle.nodes.specs.Sets.{has}
 use Rattle.semantics.specs.Sizes.{group-limit, members-at}
-use Rattle.semantics.specs.declared.Reason.the-variants.{NotMember}
+use Rattle.answers.specs.declared.Reason.the-variants.{NotMember}
 use Rattle.place.specs.Place.{open-at, place-for}
 use Rattle.place.specs.Sound.{here, groups-few, sought-here, seat-below, members-here}
 use Rattle.place.specs.declared.Place.the-variants.{At}

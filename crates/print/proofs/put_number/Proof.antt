@@ -3,7 +3,7 @@
 use borrow.Author.Needs.{needs}
 use mathlib.Core.Path.{ap, _∙_}
 use Rattle.print.specs.Sheets.{put}
-use Rattle.print.specs.Lines.{decimal}
+use Rattle.print.specs.Printed.{decimal}
 use Rattle.print.specs.Decimals.{fewest-decimal, fewest-few}
 use Rattle.print.proofs.put_number.Statement.{statement}
 use Rattle.print.proofs.put_number.Tie as tie

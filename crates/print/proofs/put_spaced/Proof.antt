@@ -4,9 +4,9 @@ use borrow.Author.Needs.{needs}
 use mathlib.Core.Path.{_≡_, ap, _∙_}
 use mathlib.Core.List.{[], _∷_, append-nil}
 use Prim.Native.Nat.{ℕ}
-use Rattle.fields.specs.Text.{space}
+use Rattle.text.specs.Text.{space}
 use Rattle.print.specs.Sheets.{put}
-use Rattle.print.specs.Lines.{decimal, spaced}
+use Rattle.print.specs.Printed.{decimal, spaced}
 use Rattle.print.specs.Putting.{put-next}
 use Rattle.print.proofs.put_spaced.Statement.{statement}
 use Rattle.print.proofs.put_spaced.Tie as tie

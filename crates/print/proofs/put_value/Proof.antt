@@ -1,7 +1,7 @@
 -- `print::put_value` meets its contract: in each arm, the word and the numbers of that value.
 -- Assumes nothing.
 use borrow.Author.Needs.{needs}
-use Rattle.print.specs.Lines.{spaced}
+use Rattle.print.specs.Printed.{spaced}
 use Rattle.print.specs.Putting.{put-next}
 use Rattle.print.specs.Decimals.{spaced-next}
 use Rattle.print.proofs.put_value.Statement.{statement}

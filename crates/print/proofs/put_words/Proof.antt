@@ -5,7 +5,7 @@ use mathlib.Core.Path.{_≡_, sym, _∙_}
 use Prim.Native.Nat.{_≤_, _-_}
 use lib.ListN.{length, drop}
 use Rattle.print.specs.Sheets.{sheet, put}
-use Rattle.print.specs.Lines.{spaced}
+use Rattle.print.specs.Printed.{spaced}
 use Rattle.print.specs.Decimals.{spaced-turn, spaced-end}
 use Rattle.print.proofs.put_words.Statement.{statement}
 use Rattle.print.proofs.put_words.Tie as tie

@@ -5,12 +5,12 @@ use mathlib.Core.Path.{sym, _∙_}
 use native.Mathlib.Omega.{arith}
 use lib.ListN.{getD}
 use Rattle.semantics.specs.Table.{state-of}
-use Rattle.judge.specs.Passed.{host-done}
+use Rattle.inputs.specs.Passed.{host-done}
 use Rattle.place.specs.Sound.{here, regular, base, nodes-few}
-use Rattle.steps.specs.Judged.{refused, passed, step-send}
-use Rattle.steps.specs.Calls.{says, says-kept}
+use Rattle.returns.specs.Judged.{refused, passed, step-send}
+use Rattle.returns.specs.Shown.{says, says-kept}
 use Rattle.reaching.specs.Reaching.{in-limit}
-use Rattle.judge.proofs.Reasons.{not-done}
+use Rattle.inputs.proofs.Reasons.{not-done}
 use Rattle.reaching.proofs.send.Statement.{statement}
 use Rattle.reaching.proofs.send.Tie as tie
 

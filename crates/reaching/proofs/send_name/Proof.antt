@@ -6,14 +6,14 @@ use native.Mathlib.Omega.{arith}
 use lib.ListN.{getD}
 use Rattle.semantics.specs.Table.{state-of}
 use Rattle.semantics.specs.Steps.{ask}
-use Rattle.lookup.specs.declared.Lookup.the-variants.{Found, Missing}
-use Rattle.judge.specs.Passed.{group-done, name-done}
-use Rattle.lookup.specs.Looked.{looked-up}
+use Rattle.names.specs.declared.Lookup.the-variants.{Found, Missing}
+use Rattle.inputs.specs.Passed.{group-done, name-done}
+use Rattle.names.specs.Looked.{looked-up}
 use Rattle.place.specs.Sound.{here, regular, base, nodes-few}
-use Rattle.steps.specs.Judged.{refused, step-send-name}
-use Rattle.steps.specs.Calls.{says-kept}
+use Rattle.returns.specs.Judged.{refused, step-send-name}
+use Rattle.returns.specs.Shown.{says-kept}
 use Rattle.reaching.specs.Reaching.{in-limit, host-here, send-name-told}
-use Rattle.judge.proofs.Reasons.{not-done}
+use Rattle.inputs.proofs.Reasons.{not-done}
 use Rattle.reaching.proofs.send_name.Statement.{statement}
 use Rattle.reaching.proofs.send_name.Tie as tie
 

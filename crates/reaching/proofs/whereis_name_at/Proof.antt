@@ -5,14 +5,14 @@ use mathlib.Core.Path.{sym, ap, _∙_}
 use native.Mathlib.Omega.{arith}
 use lib.ListN.{getD}
 use Rattle.semantics.specs.Table.{state-of}
-use Rattle.lookup.specs.declared.Lookup.the-variants.{Found, Missing}
-use Rattle.judge.specs.Passed.{asking-done}
-use Rattle.lookup.specs.Looked.{looked-up}
+use Rattle.names.specs.declared.Lookup.the-variants.{Found, Missing}
+use Rattle.inputs.specs.Passed.{asking-done}
+use Rattle.names.specs.Looked.{looked-up}
 use Rattle.place.specs.Sound.{here, regular, base, nodes-few}
-use Rattle.steps.specs.Judged.{refused, step-whereis-at}
-use Rattle.steps.specs.Calls.{says-kept}
+use Rattle.returns.specs.Judged.{refused, step-whereis-at}
+use Rattle.returns.specs.Shown.{says-kept}
 use Rattle.reaching.specs.Reaching.{in-limit, whereis-told}
-use Rattle.judge.proofs.Reasons.{not-done}
+use Rattle.inputs.proofs.Reasons.{not-done}
 use Rattle.reaching.proofs.whereis_name_at.Statement.{statement}
 use Rattle.reaching.proofs.whereis_name_at.Tie as tie
 

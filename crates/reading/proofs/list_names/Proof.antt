@@ -4,7 +4,7 @@ use borrow.Author.Needs.{needs}
 use mathlib.Core.Path.{refl}
 use Prim.Native.Nat.{_+_, _*_}
 use Rattle.semantics.specs.Sizes.{names-per-group, bodies-at}
-use Rattle.steps.specs.Listing.{list-told, list-short}
+use Rattle.returns.specs.Listing.{list-told, list-short}
 use Rattle.reading.proofs.list_names.Statement.{statement}
 use Rattle.reading.proofs.list_names.Tie as tie
 

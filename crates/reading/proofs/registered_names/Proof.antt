@@ -4,12 +4,12 @@ use borrow.Author.Needs.{needs}
 use native.Mathlib.Omega.{arith}
 use lib.ListN.{length}
 use Rattle.semantics.specs.Table.{state-of}
-use Rattle.steps.specs.Judged.{step-names}
+use Rattle.returns.specs.Judged.{step-names}
 use Rattle.place.specs.Seats.{Open}
 use Rattle.place.specs.Sound.{here, regular, base, nodes-few}
 use Rattle.names.specs.NamesHere.{standing}
-use Rattle.steps.specs.Ends.{open-below, opened, lists-refused, lists-denied, lists-told}
-use Rattle.judge.proofs.Reasons.{not-done}
+use Rattle.returns.specs.Ends.{open-below, opened, lists-refused, lists-denied, lists-told}
+use Rattle.inputs.proofs.Reasons.{not-done}
 use Rattle.reading.proofs.registered_names.Statement.{statement}
 use Rattle.reading.proofs.registered_names.Tie as tie
 

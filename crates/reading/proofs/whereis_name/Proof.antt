@@ -3,24 +3,25 @@
 use borrow.Author.Needs.{needs}
 use mathlib.Core.Path.{_≡_, sym, ap, _∙_}
 use native.Mathlib.Omega.{arith}
-use Rattle.semantics.specs.Commands.{within, whereis-name}
+use Rattle.commands.specs.declared.Command.the-variants.{Within}
+use Rattle.commands.specs.declared.GroupCommand.the-variants.{WhereisName}
 use Rattle.semantics.specs.Steps.{Looked, tell}
 use Rattle.semantics.specs.Table.{state-of}
 use Rattle.semantics.specs.Call.{call}
-use Rattle.lookup.specs.declared.Lookup.{Lookup}
-use Rattle.steps.specs.Judged.{step-whereis, refused}
+use Rattle.names.specs.declared.Lookup.{Lookup}
+use Rattle.returns.specs.Judged.{step-whereis, refused}
 use Rattle.place.specs.Sound.{here, nodes-few}
-use Rattle.steps.specs.Calls.{answers}
-use Rattle.lookup.specs.Looked.{looked-up}
+use Rattle.returns.specs.Shown.{answers}
+use Rattle.names.specs.Looked.{looked-up}
 use Rattle.reading.specs.Asking.{whereis-told}
-use Rattle.judge.proofs.Reasons.{not-done}
+use Rattle.inputs.proofs.Reasons.{not-done}
 use Rattle.reading.proofs.whereis_name.Statement.{statement}
 use Rattle.reading.proofs.whereis_name.Tie as tie
 
 -- what the lookup found is told
 told-here : (f : tie.After-look) (l : Lookup) → f .look .result ≡ l → let p = f .before .before .before .before .before .before in
     let t = p .args .t .now in
-    tell (looked-up l) (here t) .answer ≡ call 0 (p .args .caller) (within (whereis-name (p .args .s) (p .args .n))) t .answer
+    tell (looked-up l) (here t) .answer ≡ call 0 (p .args .caller) (Within (WhereisName (p .args .s) (p .args .n))) t .answer
 unfolding state-of
 told-here f l e =
     let r = f .before .before .before in

@@ -11,7 +11,7 @@ use lib.ListN.{length, getD}
 use lib.Pow.{shr-shr}
 use Rattle.nodes.specs.Sets.{has}
 use Rattle.semantics.specs.Steps.{mapi}
-use Rattle.rewiring.specs.Places.{from, from-start, from-turn, from-end}
+use Rattle.rewiring.specs.PlaceByPlace.{from, from-start, from-turn, from-end}
 use Rattle.rewiring.proofs.fill_pass.Statement.{statement}
 use Rattle.rewiring.proofs.fill_pass.Tie as tie
 

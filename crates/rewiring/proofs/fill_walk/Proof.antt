@@ -5,7 +5,7 @@ use mathlib.Core.Path.{refl}
 use mathlib.Core.Logic.{⊎-elim}
 use Prim.Native.Nat.{_<_}
 use native.Mathlib.Omega.{arith}
-use Rattle.rewiring.specs.Places.{Walk, walk-less, walk-store, walk-past, walk-end}
+use Rattle.rewiring.specs.PlaceByPlace.{Walk, walk-less, walk-store, walk-past, walk-end}
 use Rattle.rewiring.proofs.fill_walk.Statement.{statement}
 use Rattle.rewiring.proofs.fill_walk.Tie as tie
 

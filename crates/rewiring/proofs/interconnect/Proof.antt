@@ -8,7 +8,7 @@ use native.Mathlib.Omega.{arith}
 use lib.ListN.{getD}
 use Rattle.nodes.specs.Sets.{union, without-node}
 use Rattle.semantics.specs.Steps.{interconnect}
-use Rattle.rewiring.specs.Places.{Walk, walk-less, walk-store, walk-past, walk-end}
+use Rattle.rewiring.specs.PlaceByPlace.{Walk, walk-less, walk-store, walk-past, walk-end}
 use Rattle.rewiring.proofs.interconnect.Statement.{statement}
 use Rattle.rewiring.proofs.interconnect.Tie as tie
 

@@ -6,7 +6,7 @@ use mathlib.Core.Bool.{cond}
 use Prim.Native.Nat.{ℕ}
 use Rattle.nodes.specs.Sets.{has, diff}
 use Rattle.semantics.specs.Steps.{mapi, leave-free}
-use Rattle.rewiring.specs.Places.{mapi-mapi}
+use Rattle.rewiring.specs.PlaceByPlace.{mapi-mapi}
 use Rattle.rewiring.proofs.leave_free.Statement.{statement}
 use Rattle.rewiring.proofs.leave_free.Tie as tie
 

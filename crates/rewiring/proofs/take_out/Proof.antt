@@ -7,7 +7,7 @@ use native.Mathlib.Omega.{arith}
 use lib.ListN.{length}
 use Rattle.nodes.specs.Sets.{diff}
 use Rattle.semantics.specs.Steps.{mapi}
-use Rattle.rewiring.specs.Places.{from, from-start, from-turn, from-end}
+use Rattle.rewiring.specs.PlaceByPlace.{from, from-start, from-turn, from-end}
 use Rattle.rewiring.proofs.take_out.Statement.{statement}
 use Rattle.rewiring.proofs.take_out.Tie as tie
 

@@ -6,7 +6,7 @@ use Prim.Native.Nat.{ℕ, _+_}
 use native.Mathlib.Omega.{arith}
 use lib.Seq.{length-take-le}
 use Rattle.script.specs.Scripts.{size-of}
-use Rattle.script.specs.Lines.{asks, first-ended, first-cut}
+use Rattle.script.specs.FirstLines.{asks, first-ended, first-cut}
 use Rattle.script.proofs.first.Statement.{statement}
 use Rattle.script.proofs.first.Tie as tie
 

@@ -8,9 +8,9 @@ use native.Mathlib.Omega.{arith}
 use borrow.Author.Tests.{lt-leb}
 use lib.ListN.{length, drop, length-drop}
 use Rattle.print.specs.Sheets.{sheet, put}
-use Rattle.print.specs.Lines.{too-long}
+use Rattle.print.specs.Printed.{too-long}
 use Rattle.script.specs.Scripts.{script-limit, line-room, Line, overlong, lines-from, size-of, line-turn, stop, runs}
-use Rattle.script.specs.Lines.{line-at}
+use Rattle.script.specs.FirstLines.{line-at}
 use Rattle.script.specs.Whole.{run-full, run-line, run-over}
 use Rattle.script.proofs.refuse.Statement.{statement}
 use Rattle.script.proofs.refuse.Tie as tie

@@ -2,7 +2,7 @@
 -- Assumes nothing.
 use borrow.Author.Needs.{needs}
 use mathlib.Core.Path.{sym, _∙_}
-use Rattle.semantics.specs.Commands.{own-nodes}
+use Rattle.commands.specs.declared.Command.the-variants.{OwnNodes}
 use Rattle.sgroup.specs.Unfit.{sound-run, says-unfit}
 use Rattle.sgroup.proofs.own_nodes.Statement.{statement}
 use Rattle.sgroup.proofs.own_nodes.Tie as tie
@@ -22,7 +22,7 @@ unfit-requires c κs = search needs
 returns-2 : tie.Need-returns-2
 returns-2 c =
     let a = c .before .before .before .before .args in
-    says-unfit 0 (a .caller) own-nodes (a .table .now) (c .unfit .result) (sym (c .before .before .is-sound .ensures) ∙ c .before .if1 .left) (c .unfit .ensures) .0
+    says-unfit 0 (a .caller) OwnNodes (a .table .now) (c .unfit .result) (sym (c .before .before .is-sound .ensures) ∙ c .before .if1 .left) (c .unfit .ensures) .0
 
 pub own-nodes-spec : {M : Type 1} → statement M
 own-nodes-spec =

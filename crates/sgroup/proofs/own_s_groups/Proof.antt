@@ -2,7 +2,7 @@
 -- Assumes nothing.
 use borrow.Author.Needs.{needs}
 use mathlib.Core.Path.{sym, _∙_}
-use Rattle.semantics.specs.Commands.{own-s-groups}
+use Rattle.commands.specs.declared.Command.the-variants.{OwnSGroups}
 use Rattle.sgroup.specs.Unfit.{sound-run, lists-unfit}
 use Rattle.sgroup.proofs.own_s_groups.Statement.{statement}
 use Rattle.sgroup.proofs.own_s_groups.Tie as tie
@@ -25,7 +25,7 @@ unfit-requires c κs = search needs
 returns-2 : tie.Need-returns-2
 returns-2 c =
     let a = c .before .before .before .before .before .args in
-    lists-unfit (a .caller) own-s-groups (a .table .now) (a .out .now) (c .unfit .result) (sym (c .before .before .is-sound .ensures) ∙ c .before .if1 .left) (c .unfit .ensures)
+    lists-unfit (a .caller) OwnSGroups (a .table .now) (a .out .now) (c .unfit .result) (sym (c .before .before .is-sound .ensures) ∙ c .before .if1 .left) (c .unfit .ensures)
 
 pub own-s-groups-spec : {M : Type 1} → statement M
 own-s-groups-spec =

@@ -2,7 +2,7 @@
 -- Assumes nothing.
 use borrow.Author.Needs.{needs}
 use mathlib.Core.Path.{sym, _∙_}
-use Rattle.semantics.specs.Commands.{whereis-name-at}
+use Rattle.commands.specs.declared.Command.the-variants.{WhereisNameAt}
 use Rattle.sgroup.specs.Unfit.{sound-run, says-unfit}
 use Rattle.sgroup.proofs.whereis_name_at.Statement.{statement}
 use Rattle.sgroup.proofs.whereis_name_at.Tie as tie
@@ -28,7 +28,7 @@ same-length-2 c = search needs
 returns-2 : tie.Need-returns-2
 returns-2 c =
     let a = c .before .before .before .before .before .before .args in
-    says-unfit 0 (a .caller) (whereis-name-at (a .node) (a .s) (a .n)) (a .table .now) (c .unfit .result) (sym (c .before .before .before .is-sound .ensures) ∙ c .before .before .if1 .left) (c .unfit .ensures)
+    says-unfit 0 (a .caller) (WhereisNameAt (a .node) (a .s) (a .n)) (a .table .now) (c .unfit .result) (sym (c .before .before .before .is-sound .ensures) ∙ c .before .before .if1 .left) (c .unfit .ensures)
 
 pub whereis-name-at-spec : {M : Type 1} → statement M
 whereis-name-at-spec =

@@ -3,7 +3,7 @@
 use borrow.Author.Needs.{needs}
 use mathlib.Core.List.{[]}
 use Rattle.semantics.specs.Call.{opening}
-use Rattle.told.specs.Told.{silent-table, tells-table}
+use Rattle.answer_words.specs.Told.{silent-table, tells-table}
 use Rattle.sgroup_c.proofs.sgroup_open.Statement.{statement}
 use Rattle.sgroup_c.proofs.sgroup_open.Tie as tie
 

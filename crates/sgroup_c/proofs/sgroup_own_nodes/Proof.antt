@@ -2,16 +2,16 @@
 -- Assumes nothing.
 use borrow.Author.Needs.{needs}
 use mathlib.Core.List.{[]}
-use Rattle.semantics.specs.Commands.{own-nodes}
+use Rattle.commands.specs.declared.Command.the-variants.{OwnNodes}
 use Rattle.semantics.specs.Call.{call}
-use Rattle.told.specs.Told.{silent, tells}
+use Rattle.answer_words.specs.Told.{silent, tells}
 use Rattle.sgroup_c.proofs.sgroup_own_nodes.Statement.{statement}
 use Rattle.sgroup_c.proofs.sgroup_own_nodes.Tie as tie
 
 returns : tie.Need-returns
 returns c =
     let a = c .before .before .before .args in
-    silent (call 0 (a .caller) own-nodes (a .table .now)) (a .answer .now) [] (a .table .now) (c .if1 .taken)
+    silent (call 0 (a .caller) OwnNodes (a .table .now)) (a .answer .now) [] (a .table .now) (c .if1 .taken)
 
 own-nodes-requires : tie.Need-own-nodes-requires
 own-nodes-requires c κs = search needs
@@ -27,7 +27,7 @@ returns-2 c =
     let b = c .before .before .before in
     let e = b .before .before in
     let a = e .before .before .before .args in
-    tells (call 0 (a .caller) own-nodes (a .table .now)) (a .answer .now) [] (a .table .now) (e .if1 .left) (b .own-nodes .ensures) (c .before .before .put .ensures)
+    tells (call 0 (a .caller) OwnNodes (a .table .now)) (a .answer .now) [] (a .table .now) (e .if1 .left) (b .own-nodes .ensures) (c .before .before .put .ensures)
 
 pub sgroup-own-nodes-spec : {M : Type 1} → statement M
 sgroup-own-nodes-spec =

@@ -2,16 +2,16 @@
 -- Assumes nothing.
 use borrow.Author.Needs.{needs}
 use lib.ListN.{length}
-use Rattle.semantics.specs.Commands.{own-s-groups}
+use Rattle.commands.specs.declared.Command.the-variants.{OwnSGroups}
 use Rattle.semantics.specs.Call.{call}
-use Rattle.told.specs.Told.{silent-list, tells-list}
+use Rattle.answer_words.specs.Told.{silent-list, tells-list}
 use Rattle.sgroup_c.proofs.sgroup_own_s_groups.Statement.{statement}
 use Rattle.sgroup_c.proofs.sgroup_own_s_groups.Tie as tie
 
 returns : tie.Need-returns
 returns c =
     let a = c .before .before .before .before .args in
-    silent-list (call (length (a .out .now)) (a .caller) own-s-groups (a .table .now)) (a .answer .now) (a .out .now) (a .table .now) (c .if1 .taken)
+    silent-list (call (length (a .out .now)) (a .caller) OwnSGroups (a .table .now)) (a .answer .now) (a .out .now) (a .table .now) (c .if1 .taken)
 
 own-s-groups-requires : tie.Need-own-s-groups-requires
 own-s-groups-requires c κs = search needs
@@ -30,7 +30,7 @@ returns-2 c =
     let b = c .before .before .before .before .before in
     let e = b .before .before .before in
     let a = e .before .before .before .before .args in
-    tells-list (call (length (a .out .now)) (a .caller) own-s-groups (a .table .now)) (a .answer .now) (a .out .now) (a .table .now) (e .if1 .left) (b .own-s-groups .ensures) (c .before .before .put .ensures)
+    tells-list (call (length (a .out .now)) (a .caller) OwnSGroups (a .table .now)) (a .answer .now) (a .out .now) (a .table .now) (e .if1 .left) (b .own-s-groups .ensures) (c .before .before .put .ensures)
 
 pub sgroup-own-s-groups-spec : {M : Type 1} → statement M
 sgroup-own-s-groups-spec =

@@ -2,16 +2,16 @@
 -- Assumes nothing.
 use borrow.Author.Needs.{needs}
 use mathlib.Core.List.{[]}
-use Rattle.semantics.specs.Commands.{remove-nodes}
+use Rattle.commands.specs.declared.Command.the-variants.{RemoveNodes}
 use Rattle.semantics.specs.Call.{call}
-use Rattle.told.specs.Told.{silent-table, tells-table}
+use Rattle.answer_words.specs.Told.{silent-table, tells-table}
 use Rattle.sgroup_c.proofs.sgroup_remove_nodes.Statement.{statement}
 use Rattle.sgroup_c.proofs.sgroup_remove_nodes.Tie as tie
 
 returns : tie.Need-returns
 returns c =
     let a = c .before .before .before .args in
-    silent-table (call 0 (a .caller) (remove-nodes (a .s) (a .set)) (a .table .now)) (a .answer .now) [] (a .table .now) (c .if1 .taken)
+    silent-table (call 0 (a .caller) (RemoveNodes (a .s) (a .set)) (a .table .now)) (a .answer .now) [] (a .table .now) (c .if1 .taken)
 
 remove-nodes-requires : tie.Need-remove-nodes-requires
 remove-nodes-requires c κs = search needs
@@ -30,7 +30,7 @@ returns-2 c =
     let b = c .before .before .before .before .before in
     let e = b .before .before .before in
     let a = e .before .before .before .args in
-    tells-table (call 0 (a .caller) (remove-nodes (a .s) (a .set)) (a .table .now)) (a .answer .now) [] (a .table .now) (e .if1 .left) (b .remove-nodes .ensures) (c .before .before .put .ensures)
+    tells-table (call 0 (a .caller) (RemoveNodes (a .s) (a .set)) (a .table .now)) (a .answer .now) [] (a .table .now) (e .if1 .left) (b .remove-nodes .ensures) (c .before .before .put .ensures)
 
 pub sgroup-remove-nodes-spec : {M : Type 1} → statement M
 sgroup-remove-nodes-spec =

@@ -2,16 +2,16 @@
 -- Assumes nothing.
 use borrow.Author.Needs.{needs}
 use mathlib.Core.List.{[]}
-use Rattle.semantics.specs.Commands.{whereis-name-at}
+use Rattle.commands.specs.declared.Command.the-variants.{WhereisNameAt}
 use Rattle.semantics.specs.Call.{call}
-use Rattle.told.specs.Told.{silent-table, tells-table}
+use Rattle.answer_words.specs.Told.{silent-table, tells-table}
 use Rattle.sgroup_c.proofs.sgroup_whereis_name_at.Statement.{statement}
 use Rattle.sgroup_c.proofs.sgroup_whereis_name_at.Tie as tie
 
 returns : tie.Need-returns
 returns c =
     let a = c .before .before .before .args in
-    silent-table (call 0 (a .caller) (whereis-name-at (a .node) (a .s) (a .n)) (a .table .now)) (a .answer .now) [] (a .table .now) (c .if1 .taken)
+    silent-table (call 0 (a .caller) (WhereisNameAt (a .node) (a .s) (a .n)) (a .table .now)) (a .answer .now) [] (a .table .now) (c .if1 .taken)
 
 whereis-name-at-requires : tie.Need-whereis-name-at-requires
 whereis-name-at-requires c κs = search needs
@@ -30,7 +30,7 @@ returns-2 c =
     let b = c .before .before .before .before .before in
     let e = b .before .before .before in
     let a = e .before .before .before .args in
-    tells-table (call 0 (a .caller) (whereis-name-at (a .node) (a .s) (a .n)) (a .table .now)) (a .answer .now) [] (a .table .now) (e .if1 .left) (b .whereis-name-at .ensures) (c .before .before .put .ensures)
+    tells-table (call 0 (a .caller) (WhereisNameAt (a .node) (a .s) (a .n)) (a .table .now)) (a .answer .now) [] (a .table .now) (e .if1 .left) (b .whereis-name-at .ensures) (c .before .before .put .ensures)
 
 pub sgroup-whereis-name-at-spec : {M : Type 1} → statement M
 sgroup-whereis-name-at-spec =

@@ -4,8 +4,8 @@ use borrow.Author.Needs.{needs}
 use mathlib.Core.Path.{ap, ap₂, _∙_}
 use mathlib.Core.Bool.{_&&_}
 use Prim.Native.Nat.{ℕ}
-use Rattle.wiring.specs.Tests.{free-sound}
-use Rattle.parts.specs.Tests.{links-part, free-part}
+use Rattle.free_test.specs.WireTests.{free-sound}
+use Rattle.groups_test.specs.GroupTests.{links-part, free-part}
 use Rattle.table.proofs.parts_sound.Statement.{statement}
 use Rattle.table.proofs.parts_sound.Tie as tie
 

@@ -5,8 +5,8 @@ use mathlib.Core.Path.{_≡_, refl, ap}
 use mathlib.Core.Bool.{Bool, true, false, cond}
 use Prim.Native.Nat.{ℕ}
 use borrow.Author.Tests.{ne-eqb}
-use Rattle.semantics.specs.Commands.{own-s-groups}
-use Rattle.words.specs.Commands.{Form, last-form, forms, form-from, form-of, command-of}
+use Rattle.commands.specs.declared.Command.the-variants.{OwnSGroups}
+use Rattle.forms.specs.Forms.{Form, last-form, forms, form-from, form-of, command-of}
 use Rattle.turns.specs.Acts.{acts-bare, acts-read, acts-list}
 use Rattle.turns.proofs.act.Statement.{statement}
 use Rattle.turns.proofs.act.Tie as tie
@@ -41,7 +41,7 @@ form-else n h =
       either-form,
     )
 
-last-command : (n : ℕ) → Others n → (a b c set : ℕ) → command-of n a b c set ≡ own-s-groups
+last-command : (n : ℕ) → Others n → (a b c set : ℕ) → command-of n a b c set ≡ OwnSGroups
 unfolding command-of
 last-command n h a b c set = ap (λ (f : Form). f .command a b c set) (form-else n h)
 
@@ -198,7 +198,7 @@ same-length-17 : tie.Need-same-length-17
 same-length-17 c = search needs
 
 returns-15 : tie.Need-returns-15
-returns-15 c = acts-list _ _ _ _ _ _ _ _ _ own-s-groups _ _ refl (last-command _ (c .before .before .before .before .before .match .rest) _ _ _ _) refl (c .before .before .own-s-groups .ensures .0) (c .before .before .own-s-groups .ensures .1)
+returns-15 c = acts-list _ _ _ _ _ _ _ _ _ OwnSGroups _ _ refl (last-command _ (c .before .before .before .before .before .match .rest) _ _ _ _) refl (c .before .before .own-s-groups .ensures .0) (c .before .before .own-s-groups .ensures .1)
 
 pub act-spec : {M : Type 1} → statement M
 act-spec =

@@ -1,0 +1,3 @@
+pub mod Loosed
+pub mod PairConnected
+pub mod Freeing

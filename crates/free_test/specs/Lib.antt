@@ -1,0 +1,4 @@
+pub mod WireTests
+pub mod Below
+pub mod Gather
+pub mod WireTestMeaning

@@ -1,0 +1,18 @@
+-- Tests of every number below a bound, and parts that are lent. Assumes nothing.
+use mathlib.Core.Path.{_≡_, sym, ap, _∙_}
+use mathlib.Core.Bool.{Bool, true, false, true≢false}
+use mathlib.Core.List.{List}
+use Prim.Native.Nat.{ℕ, _+_, _-_, _<_}
+use native.Mathlib.Nat.{add-sub-cancel-left}
+use lib.ListN.{take, drop}
+use Rattle.semantics.specs.Truth.{unless}
+use Rattle.free_test.specs.WireTests.{all-below}
+use Rattle.free_test.specs.Below.{below-at}
+
+-- where one fails, the test of all fails
+pub below-fails : (n : ℕ) (p : ℕ → Bool) (i : ℕ) → i < n → p i ≡ false → all-below n p ≡ false
+below-fails n p i l e = unless (all-below n p) (λ h. true≢false (sym (below-at n p h i l) ∙ e))
+
+-- size words from at, as a part that is lent
+pub lent-part : (at size : ℕ) (t : List ℕ) → take (at + size - at) (drop at t) ≡ take size (drop at t)
+lent-part at size t = ap (λ (k : ℕ). take k (drop at t)) (add-sub-cancel-left at size)

@@ -1,0 +1,2 @@
+pub mod GroupTests
+pub mod GroupsBelow

@@ -1,0 +1,91 @@
+-- The reason that is given is the lowest that holds: the tests of each command, and of opening, ascend by 01's numbers. Assumes nothing.
+use mathlib.Core.Path.{_≡_, refl, sym, ap, _∙_}
+use mathlib.Core.Logic.{_⊎_, inl, inr}
+use mathlib.Core.Bool.{Bool, true, false, cond, false≢true, and-eq-true-iff}
+use mathlib.Core.List.{List, [], _∷_, map}
+use Prim.Native.Nat.{ℕ, _≤_, _<_}
+use native.Mathlib.Omega.{arith}
+use lib.Dec.{ltb}
+use borrow.Author.Tests.{ltb-true}
+use Rattle.answers.specs.Answers.{number}
+use Rattle.semantics.specs.Test.{ascending}
+use Rattle.commands.specs.declared.Command.{Command}
+use Rattle.commands.specs.declared.Command.the-variants.{Within, WhereisNameAt, SendAt, Send, SendName, RemoveNodes, DeleteSGroup, OwnNodes, OwnSGroups}
+use Rattle.commands.specs.declared.GroupCommand.the-variants.{RegisterName, ReRegisterName, UnregisterName, WhereisName, RegisteredNames, AddNodes, NewSGroup}
+use Rattle.answers.specs.declared.Reason.{Reason}
+use Rattle.answers.specs.declared.Reason.the-variants.{Done}
+use Rattle.published.specs.Published.{Set, Published}
+use Rattle.published.specs.Refusals.{Test, first, tests, opening-tests}
+
+-- a test of the list
+abbrev pub In : Test → List Test → Type 0
+In t [] = ⊥
+In t (u ∷ us) = (t ≡ u) ⊎ In t us
+
+-- the numbers of the reasons
+abbrev pub numbers : List Test → List ℕ
+numbers ts = map (λ t. number (t .reason)) ts
+
+-- r is the lowest reason of ts that holds, or Done where none does
+pub record Lowest (ts : List Test) (r : Reason) : Type 0 where
+  pub given : ((r ≡ Done) × ((t : Test) → In t ts → t .holds ≡ false)) ⊎ ((t : Test) × In t ts × (t .holds ≡ true) × (r ≡ t .reason))
+  pub least : (t : Test) → In t ts → t .holds ≡ true → number r ≤ number (t .reason)
+
+above : (b : ℕ) (ts : List Test) → ascending b (numbers ts) ≡ true → (t : Test) → In t ts → b < number (t .reason)
+above b [] h t i = absurd i
+above b (u ∷ us) h t (inl e) = rw e (ltb-true b (number (u .reason)) (and-eq-true-iff (ltb b (number (u .reason))) _ .0 h .0))
+above b (u ∷ us) h t (inr i) =
+    let p = and-eq-true-iff (ltb b (number (u .reason))) _ .0 h in
+    omega (arith, ltb-true b (number (u .reason)) (p .0), above (number (u .reason)) us (p .1) t i)
+
+first-lowest : (b : ℕ) (ts : List Test) → ascending b (numbers ts) ≡ true → Lowest ts (first ts)
+first-lowest b [] h = record { given = inl (refl, λ t i. absurd i); least = λ t i. absurd i }
+first-lowest b (u ∷ us) h = go (u .holds) refl (first-lowest (number (u .reason)) us rest)
+  where
+    rest : ascending (number (u .reason)) (numbers us) ≡ true
+    rest = and-eq-true-iff (ltb b (number (u .reason))) _ .0 h .1
+
+    go : (x : Bool) → u .holds ≡ x → Lowest us (first us) → Lowest (u ∷ us) (cond x (u .reason) (first us))
+    go true e ih = record { given = inr (u, inl refl, e, refl); least = at-least }
+      where
+        at-least : (t : Test) → In t (u ∷ us) → t .holds ≡ true → number (u .reason) ≤ number (t .reason)
+        at-least t (inl q) k = rw q (omega arith)
+        at-least t (inr i) k = omega (arith, above (number (u .reason)) us rest t i)
+    go false e ih = record { given = whence (ih .given); least = at-least }
+      where
+        none : ((t : Test) → In t us → t .holds ≡ false) → (t : Test) → In t (u ∷ us) → t .holds ≡ false
+        none f t (inl q) = ap (λ (v : Test). v .holds) q ∙ e
+        none f t (inr i) = f t i
+
+        whence : ((first us ≡ Done) × ((t : Test) → In t us → t .holds ≡ false)) ⊎ ((t : Test) × In t us × (t .holds ≡ true) × (first us ≡ t .reason))
+            → ((first us ≡ Done) × ((t : Test) → In t (u ∷ us) → t .holds ≡ false)) ⊎ ((t : Test) × In t (u ∷ us) × (t .holds ≡ true) × (first us ≡ t .reason))
+        whence (inl p) = inl (p .0, none (p .1))
+        whence (inr p) = inr (p .0, inr (p .1), p .2, p .3)
+
+        at-least : (t : Test) → In t (u ∷ us) → t .holds ≡ true → number (first us) ≤ number (t .reason)
+        at-least t (inl q) k = absurd (false≢true (sym e ∙ ap (λ (v : Test). v .holds) (sym q) ∙ k))
+        at-least t (inr i) k = ih .least t i k
+
+pub tests-ascend : (room : ℕ) (c : Command) (ni : ℕ) (X : Published) → ascending 0 (numbers (tests room c ni X)) ≡ true
+unfolding tests
+tests-ascend room (Within (RegisterName s n p)) ni X = refl
+tests-ascend room (Within (ReRegisterName s n p)) ni X = refl
+tests-ascend room (Within (UnregisterName s n)) ni X = refl
+tests-ascend room (Within (WhereisName s n)) ni X = refl
+tests-ascend room (Within (RegisteredNames s)) ni X = refl
+tests-ascend room (Within (AddNodes s set)) ni X = refl
+tests-ascend room (Within (NewSGroup s set)) ni X = refl
+tests-ascend room (WhereisNameAt ni′ s n) ni X = refl
+tests-ascend room (SendAt ni′ s n) ni X = refl
+tests-ascend room (Send p) ni X = refl
+tests-ascend room (SendName s n) ni X = refl
+tests-ascend room (RemoveNodes s set) ni X = refl
+tests-ascend room (DeleteSGroup s) ni X = refl
+tests-ascend room OwnNodes ni X = refl
+tests-ascend room OwnSGroups ni X = refl
+
+pub lowest : (room : ℕ) (c : Command) (ni : ℕ) (X : Published) → Lowest (tests room c ni X) (first (tests room c ni X))
+lowest room c ni X = first-lowest 0 (tests room c ni X) (tests-ascend room c ni X)
+
+pub opening-lowest : (run N : ℕ) (nis : Set) → Lowest (opening-tests run N nis) (first (opening-tests run N nis))
+opening-lowest run N nis = first-lowest 0 (opening-tests run N nis) refl

@@ -1,0 +1,4 @@
+pub mod Numbers
+pub mod DecimalDigits
+pub mod Text
+pub mod FieldLaws

@@ -1,3 +1,0 @@
-pub mod Loosed
-pub mod Connecting
-pub mod Freeing

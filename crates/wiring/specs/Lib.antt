@@ -1,4 +1,0 @@
-pub mod Tests
-pub mod Below
-pub mod Gather
-pub mod Reading

@@ -4,8 +4,7 @@ use mathlib.Core.List.{List, [], _∷_}
 use Prim.Native.Nat.{ℕ, suc}
 use lib.Dec.{eqb}
 use Rattle.commands.specs.declared.Command.{Command}
-use Rattle.commands.specs.declared.Command.the-variants.{Within, WhereisNameAt, Send, SendName, SendAt, RemoveNodes, DeleteSGroup, OwnNodes, OwnSGroups}
-use Rattle.commands.specs.declared.GroupCommand.the-variants.{RegisterName, ReRegisterName, UnregisterName, RegisteredNames, WhereisName, NewSGroup, AddNodes}
+use Rattle.commands.specs.declared.Command.the-variants.{RegisterName, ReRegisterName, UnregisterName, RegisteredNames, WhereisName, WhereisNameAt, Send, SendName, SendAt, NewSGroup, AddNodes, RemoveNodes, DeleteSGroup, OwnNodes, OwnSGroups}
 use Rattle.semantics.specs.Test.{same}
 use Rattle.text.specs.Text.{bytes}
 
@@ -32,17 +31,17 @@ last-form = narrow-form (bytes "own_s_groups") 0 (λ a b c. OwnSGroups)
 -- the fifteen commands in 01's order
 unfoldable pub forms : List Form
 forms =
-    narrow-form (bytes "register_name") 3 (λ s n p. Within (RegisterName s n p))
-    ∷ narrow-form (bytes "re_register_name") 3 (λ s n p. Within (ReRegisterName s n p))
-    ∷ narrow-form (bytes "unregister_name") 2 (λ s n c. Within (UnregisterName s n))
-    ∷ narrow-form (bytes "registered_names") 1 (λ s b c. Within (RegisteredNames s))
-    ∷ narrow-form (bytes "whereis_name") 2 (λ s n c. Within (WhereisName s n))
+    narrow-form (bytes "register_name") 3 (λ s n p. RegisterName s n p)
+    ∷ narrow-form (bytes "re_register_name") 3 (λ s n p. ReRegisterName s n p)
+    ∷ narrow-form (bytes "unregister_name") 2 (λ s n c. UnregisterName s n)
+    ∷ narrow-form (bytes "registered_names") 1 (λ s b c. RegisteredNames s)
+    ∷ narrow-form (bytes "whereis_name") 2 (λ s n c. WhereisName s n)
     ∷ narrow-form (bytes "whereis_name") 3 (λ j s n. WhereisNameAt j s n)
     ∷ narrow-form (bytes "send") 1 (λ p b c. Send p)
     ∷ narrow-form (bytes "send") 2 (λ s n c. SendName s n)
     ∷ narrow-form (bytes "send") 3 (λ j s n. SendAt j s n)
-    ∷ set-form (bytes "new_s_group") (λ s set. Within (NewSGroup s set))
-    ∷ set-form (bytes "add_nodes") (λ s set. Within (AddNodes s set))
+    ∷ set-form (bytes "new_s_group") (λ s set. NewSGroup s set)
+    ∷ set-form (bytes "add_nodes") (λ s set. AddNodes s set)
     ∷ set-form (bytes "remove_nodes") (λ s set. RemoveNodes s set)
     ∷ narrow-form (bytes "delete_s_group") 1 (λ s b c. DeleteSGroup s)
     ∷ narrow-form (bytes "own_nodes") 0 (λ a b c. OwnNodes)

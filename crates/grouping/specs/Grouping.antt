@@ -11,8 +11,7 @@ use Rattle.nodes.specs.SetLaws.{has-diff, subset-diff}
 use Rattle.semantics.specs.Sizes.{group-limit, names-per-group, members-at}
 use Rattle.semantics.specs.State.{Group, State, with-groups, with-links, with-free, find, put, drop-group, all-members}
 use Rattle.commands.specs.declared.Command.{Command}
-use Rattle.commands.specs.declared.Command.the-variants.{Within, RemoveNodes, DeleteSGroup}
-use Rattle.commands.specs.declared.GroupCommand.the-variants.{NewSGroup, AddNodes}
+use Rattle.commands.specs.declared.Command.the-variants.{NewSGroup, AddNodes, RemoveNodes, DeleteSGroup}
 use Rattle.answers.specs.Answers.{answer-of}
 use Rattle.semantics.specs.Ranges.{held}
 use Rattle.semantics.specs.Steps.{interconnect, leave-free, become-free, Result, reply, error, for-member, left-in, apply}
@@ -81,12 +80,12 @@ module _ (t : List ℕ) (ok : sound names-per-group t ≡ true) (i s : ℕ) wher
       seen : q ≡ creation-reason (here t .size) (length (here t .groups)) i s set (held (find s (here t .groups)))
       seen = e ∙ (λ j. creation-reason (size-is (base t ok) j) (count-is (base t ok) j) i s set (sym f j))
 
-      pub new-refused : is-done q ≡ false → Says 0 i (Within (NewSGroup s set)) t (answer-of Error q) t
+      pub new-refused : is-done q ≡ false → Says 0 i (NewSGroup s set) t (answer-of Error q) t
       new-refused h = says-kept t ok (refused (step-new 0 i (here t) s set) seen h)
 
       pub new-made : q ≡ Done → {at : ℕ} (r : Room s at (here t .groups)) (u : List ℕ)
           → Laid names-per-group (joined set set (r .before ++ fresh s set ∷ r .after) (here t)) u
-          → Says 0 i (Within (NewSGroup s set)) t (answer-of (Grouped s set) Done) u
+          → Says 0 i (NewSGroup s set) t (answer-of (Grouped s set) Done) u
       unfolding apply
       new-made h r u l =
           says t ok (passed (step-new 0 i (here t) s set) seen h) u
@@ -94,7 +93,7 @@ module _ (t : List ℕ) (ok : sound names-per-group t ≡ true) (i s : ℕ) wher
 
     -- where the name is taken there is always a reason
     pub new-taken : {q : Reason} → q ≡ creation-reason (getD t 0 0) (getD t 2 0) i s set true → {at : ℕ} → Seat s at (here t .groups)
-        → Says 0 i (Within (NewSGroup s set)) t (answer-of Error q) t
+        → Says 0 i (NewSGroup s set) t (answer-of Error q) t
     new-taken {q} e r = new-refused true e (ap held (r .finds)) (unless (is-done q) λ h. true≢false (creation-done (getD t 0 0) (getD t 2 0) i s set true (sym e ∙ done-is q h) .2))
 
     -- ---- add_nodes
@@ -102,7 +101,7 @@ module _ (t : List ℕ) (ok : sound names-per-group t ≡ true) (i s : ℕ) wher
     module _ {q : Reason} (e : q ≡ set-reason (here t .size) i s set) (h : q ≡ Done) {at : ℕ} (o : Open i s at (here t .groups)) where
       pub add-joined : (m : ℕ) → m ≡ union (getD t (members-at + at) 0) set → (u : List ℕ)
           → Laid names-per-group (joined m set (o .seat .before ++ manned m (o .seat .group) ∷ o .seat .after) (here t)) u
-          → Says 0 i (Within (AddNodes s set)) t (answer-of (Grouped s set) Done) u
+          → Says 0 i (AddNodes s set) t (answer-of (Grouped s set) Done) u
       unfolding apply
       add-joined m em u l =
           let r = o .seat in

@@ -22,8 +22,7 @@ ghost use mathlib.Core.Path.{_≡_};
 ghost use mathlib.Core.Bool.{true};
 ghost use lib.ListN.{length};
 ghost use Rattle.semantics.specs.Sizes.{names-per-group, table-words};
-ghost use Rattle.commands.specs.declared.Command.the-variants.{Within, RemoveNodes, DeleteSGroup};
-ghost use Rattle.commands.specs.declared.GroupCommand.the-variants.{NewSGroup, AddNodes};
+ghost use Rattle.commands.specs.declared.Command.the-variants.{NewSGroup, AddNodes, RemoveNodes, DeleteSGroup};
 ghost use Rattle.semantics.specs.Test.{sound};
 ghost use Rattle.semantics.specs.Call.{call};
 
@@ -31,8 +30,8 @@ ghost use Rattle.semantics.specs.Call.{call};
 pub fn new_s_group(t: &mut [u64], caller: u32, s: u32, set: u64) -> Answer
     requires { ⌜ length (now t) ≡ table-words names-per-group ⌝ }
     requires { ⌜ sound names-per-group (now t) ≡ true ⌝ }
-    ensures { λ r. ⌜ r ≡ call 0 caller (Within (NewSGroup s set)) (now (t .entry)) .answer ⌝ }
-    ensures { λ _. ⌜ now (t .exit) ≡ call 0 caller (Within (NewSGroup s set)) (now (t .entry)) .table ⌝ }
+    ensures { λ r. ⌜ r ≡ call 0 caller (NewSGroup s set) (now (t .entry)) .answer ⌝ }
+    ensures { λ _. ⌜ now (t .exit) ≡ call 0 caller (NewSGroup s set) (now (t .entry)) .table ⌝ }
 {
     let size = t[SIZE_AT] as u32;
     let count = t[COUNT_AT] as usize;
@@ -67,8 +66,8 @@ pub fn new_s_group(t: &mut [u64], caller: u32, s: u32, set: u64) -> Answer
 pub fn add_nodes(t: &mut [u64], caller: u32, s: u32, set: u64) -> Answer
     requires { ⌜ length (now t) ≡ table-words names-per-group ⌝ }
     requires { ⌜ sound names-per-group (now t) ≡ true ⌝ }
-    ensures { λ r. ⌜ r ≡ call 0 caller (Within (AddNodes s set)) (now (t .entry)) .answer ⌝ }
-    ensures { λ _. ⌜ now (t .exit) ≡ call 0 caller (Within (AddNodes s set)) (now (t .entry)) .table ⌝ }
+    ensures { λ r. ⌜ r ≡ call 0 caller (AddNodes s set) (now (t .entry)) .answer ⌝ }
+    ensures { λ _. ⌜ now (t .exit) ≡ call 0 caller (AddNodes s set) (now (t .entry)) .table ⌝ }
 {
     let reason = set_reason(t[SIZE_AT] as u32, caller, s, set);
     let Reason::Done = reason else {

@@ -21,8 +21,7 @@ ghost use Prim.Native.Nat.{ℕ, _<_};
 ghost use lib.ListN.{length};
 ghost use Rattle.semantics.specs.Sizes.{group-limit, names-per-group, table-words};
 ghost use Rattle.semantics.specs.State.{State};
-ghost use Rattle.commands.specs.declared.Command.the-variants.{Within};
-ghost use Rattle.commands.specs.declared.GroupCommand.the-variants.{RegisterName, ReRegisterName, UnregisterName};
+ghost use Rattle.commands.specs.declared.Command.the-variants.{RegisterName, ReRegisterName, UnregisterName};
 ghost use Rattle.semantics.specs.Test.{sound};
 ghost use Rattle.semantics.specs.Call.{call};
 ghost use Rattle.semantics.specs.Regular.{Regular};
@@ -115,8 +114,8 @@ fn unregister_in(t: &mut [u64], at: usize, n: u32) -> Answer
 pub fn register_name(t: &mut [u64], caller: u32, s: u32, n: u32, p: u32) -> Answer
     requires { ⌜ length (now t) ≡ table-words names-per-group ⌝ }
     requires { ⌜ sound names-per-group (now t) ≡ true ⌝ }
-    ensures { λ r. ⌜ r ≡ call 0 caller (Within (RegisterName s n p)) (now (t .entry)) .answer ⌝ }
-    ensures { λ _. ⌜ now (t .exit) ≡ call 0 caller (Within (RegisterName s n p)) (now (t .entry)) .table ⌝ }
+    ensures { λ r. ⌜ r ≡ call 0 caller (RegisterName s n p) (now (t .entry)) .answer ⌝ }
+    ensures { λ _. ⌜ now (t .exit) ≡ call 0 caller (RegisterName s n p) (now (t .entry)) .table ⌝ }
 {
     let size = t[SIZE_AT] as u32;
     let r = pid_reason(size, caller, s, n, p);
@@ -139,8 +138,8 @@ pub fn register_name(t: &mut [u64], caller: u32, s: u32, n: u32, p: u32) -> Answ
 pub fn re_register_name(t: &mut [u64], caller: u32, s: u32, n: u32, p: u32) -> Answer
     requires { ⌜ length (now t) ≡ table-words names-per-group ⌝ }
     requires { ⌜ sound names-per-group (now t) ≡ true ⌝ }
-    ensures { λ r. ⌜ r ≡ call 0 caller (Within (ReRegisterName s n p)) (now (t .entry)) .answer ⌝ }
-    ensures { λ _. ⌜ now (t .exit) ≡ call 0 caller (Within (ReRegisterName s n p)) (now (t .entry)) .table ⌝ }
+    ensures { λ r. ⌜ r ≡ call 0 caller (ReRegisterName s n p) (now (t .entry)) .answer ⌝ }
+    ensures { λ _. ⌜ now (t .exit) ≡ call 0 caller (ReRegisterName s n p) (now (t .entry)) .table ⌝ }
 {
     let size = t[SIZE_AT] as u32;
     let r = pid_reason(size, caller, s, n, p);
@@ -163,8 +162,8 @@ pub fn re_register_name(t: &mut [u64], caller: u32, s: u32, n: u32, p: u32) -> A
 pub fn unregister_name(t: &mut [u64], caller: u32, s: u32, n: u32) -> Answer
     requires { ⌜ length (now t) ≡ table-words names-per-group ⌝ }
     requires { ⌜ sound names-per-group (now t) ≡ true ⌝ }
-    ensures { λ r. ⌜ r ≡ call 0 caller (Within (UnregisterName s n)) (now (t .entry)) .answer ⌝ }
-    ensures { λ _. ⌜ now (t .exit) ≡ call 0 caller (Within (UnregisterName s n)) (now (t .entry)) .table ⌝ }
+    ensures { λ r. ⌜ r ≡ call 0 caller (UnregisterName s n) (now (t .entry)) .answer ⌝ }
+    ensures { λ _. ⌜ now (t .exit) ≡ call 0 caller (UnregisterName s n) (now (t .entry)) .table ⌝ }
 {
     let size = t[SIZE_AT] as u32;
     let r = name_reason(size, caller, s, n);

@@ -11,8 +11,8 @@ use Rattle.nodes.specs.SetLaws.{has-union, union-lt}
 use Rattle.entries.specs.Entries.{lookup}
 use Rattle.semantics.specs.Sizes.{group-limit, group-names}
 use Rattle.semantics.specs.State.{Group, State, with-groups, with-links, with-free, find, put, add-group}
-use Rattle.commands.specs.declared.Command.the-variants.{Within}
-use Rattle.commands.specs.declared.GroupCommand.the-variants.{AddNodes, NewSGroup}
+use Rattle.commands.specs.declared.Command.the-variants.{NewSGroup, AddNodes}
+use Rattle.semantics.specs.GroupCommands.{add-nodes, new-s-group}
 use Rattle.semantics.specs.Ranges.{held}
 use Rattle.semantics.specs.Steps.{Result, Outcome, create, apply, done, say, settle, inside, interconnect, leave-free}
 use Rattle.answers.specs.declared.Value.the-variants.{Error, Grouped}
@@ -110,8 +110,8 @@ module _ {cap : ℕ} (st : State) (w : Regular cap st) (room G i s : ℕ) (small
   abbrev settled : Outcome → Result
   settled o = settle s o st
 
-  pub adds : (set : ℕ) → Agrees (settled (inside room (st .size) G i (AddNodes s set) (find s (st .groups))))
-      (transition (Within (AddNodes s set)) i (published st))
+  pub adds : (set : ℕ) → Agrees (settled (inside room (st .size) G i (add-nodes s set) (find s (st .groups))))
+      (transition (AddNodes s set) i (published st))
   unfolding inside published apply transition
   adds set =
       by-refusal settled (beyond set (st .size)) (say Error NodeUnknown) _ _ refl λ x.
@@ -128,8 +128,8 @@ module _ {cap : ℕ} (st : State) (w : Regular cap st) (room G i s : ℕ) (small
         said-is = λ k. (Grouped s (word-of node-limit set (in-word (w .size-high) set-in) k), []);
       }
 
-  pub creates : (set : ℕ) → Agrees (settled (inside room (st .size) G i (NewSGroup s set) (find s (st .groups))))
-      (transition (Within (NewSGroup s set)) i (published st))
+  pub creates : (set : ℕ) → Agrees (settled (inside room (st .size) G i (new-s-group s set) (find s (st .groups))))
+      (transition (NewSGroup s set) i (published st))
   unfolding inside published apply transition lookup
   creates set = by-refusal settled (beyond set (st .size)) (say Error NodeUnknown) _ _ refl λ x. go x (has set i)
     where

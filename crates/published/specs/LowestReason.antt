@@ -10,8 +10,7 @@ use borrow.Author.Tests.{ltb-true}
 use Rattle.answers.specs.Answers.{number}
 use Rattle.semantics.specs.Test.{ascending}
 use Rattle.commands.specs.declared.Command.{Command}
-use Rattle.commands.specs.declared.Command.the-variants.{Within, WhereisNameAt, SendAt, Send, SendName, RemoveNodes, DeleteSGroup, OwnNodes, OwnSGroups}
-use Rattle.commands.specs.declared.GroupCommand.the-variants.{RegisterName, ReRegisterName, UnregisterName, WhereisName, RegisteredNames, AddNodes, NewSGroup}
+use Rattle.commands.specs.declared.Command.the-variants.{RegisterName, ReRegisterName, UnregisterName, RegisteredNames, WhereisName, WhereisNameAt, Send, SendName, SendAt, NewSGroup, AddNodes, RemoveNodes, DeleteSGroup, OwnNodes, OwnSGroups}
 use Rattle.answers.specs.declared.Reason.{Reason}
 use Rattle.answers.specs.declared.Reason.the-variants.{Done}
 use Rattle.published.specs.Published.{Set, Published}
@@ -68,13 +67,13 @@ first-lowest b (u ∷ us) h = go (u .holds) refl (first-lowest (number (u .reaso
 
 pub tests-ascend : (room : ℕ) (c : Command) (ni : ℕ) (X : Published) → ascending 0 (numbers (tests room c ni X)) ≡ true
 unfolding tests
-tests-ascend room (Within (RegisterName s n p)) ni X = refl
-tests-ascend room (Within (ReRegisterName s n p)) ni X = refl
-tests-ascend room (Within (UnregisterName s n)) ni X = refl
-tests-ascend room (Within (WhereisName s n)) ni X = refl
-tests-ascend room (Within (RegisteredNames s)) ni X = refl
-tests-ascend room (Within (AddNodes s set)) ni X = refl
-tests-ascend room (Within (NewSGroup s set)) ni X = refl
+tests-ascend room (RegisterName s n p) ni X = refl
+tests-ascend room (ReRegisterName s n p) ni X = refl
+tests-ascend room (UnregisterName s n) ni X = refl
+tests-ascend room (WhereisName s n) ni X = refl
+tests-ascend room (RegisteredNames s) ni X = refl
+tests-ascend room (AddNodes s set) ni X = refl
+tests-ascend room (NewSGroup s set) ni X = refl
 tests-ascend room (WhereisNameAt ni′ s n) ni X = refl
 tests-ascend room (SendAt ni′ s n) ni X = refl
 tests-ascend room (Send p) ni X = refl

@@ -14,8 +14,8 @@ use Rattle.entries.specs.EntryLaws.{lookup-remove-same}
 use Rattle.semantics.specs.Sizes.{group-names}
 use Rattle.semantics.specs.State.{Group, State, find, put}
 use Rattle.semantics.specs.Steps as W
-use Rattle.commands.specs.declared.Command.the-variants.{Within}
-use Rattle.commands.specs.declared.GroupCommand.the-variants.{RegisterName, ReRegisterName, UnregisterName, WhereisName, RegisteredNames}
+use Rattle.commands.specs.declared.Command.the-variants.{RegisterName, ReRegisterName, UnregisterName, RegisteredNames, WhereisName}
+use Rattle.semantics.specs.GroupCommands.{register-name, re-register-name, unregister-name, whereis-name, registered-names}
 use Rattle.semantics.specs.Ranges.{held}
 use Rattle.semantics.specs.Steps.{Result, Outcome, hold, apply, done, say, settle, inside, full, look-reason, name-words, listed}
 use Rattle.answers.specs.declared.Value.the-variants.{True, False, Error, Undefined, Listed}
@@ -70,8 +70,8 @@ module _ {cap : ℕ} (st : State) (w : Regular cap st) (room G i s : ℕ) where
   abbrev settled : Outcome → Result
   settled o = settle s o st
 
-  pub registers : (n p : ℕ) → Agrees (settled (inside room (st .size) G i (RegisterName s n p) (find s (st .groups))))
-      (transition (Within (RegisterName s n p)) i (published st))
+  pub registers : (n p : ℕ) → Agrees (settled (inside room (st .size) G i (register-name s n p) (find s (st .groups))))
+      (transition (RegisterName s n p) i (published st))
   unfolding inside published transition
   registers n p =
       by-refusal settled (eqb n 0) (say Error NameZero) _ _ refl λ x.
@@ -93,8 +93,8 @@ module _ {cap : ℕ} (st : State) (w : Regular cap st) (room G i s : ℕ) where
           record { state = hold-seen st s g f _ _ (insert-seen n p (g .names) (not-held (lookup n (g .names)) e)); said-is = refl }
 
   pub re-registers : (n p : ℕ)
-      → Agrees (settled (inside room (st .size) G i (ReRegisterName s n p) (find s (st .groups))))
-      (transition (Within (ReRegisterName s n p)) i (published st))
+      → Agrees (settled (inside room (st .size) G i (re-register-name s n p) (find s (st .groups))))
+      (transition (ReRegisterName s n p) i (published st))
   unfolding inside published transition
   re-registers n p =
       by-refusal settled (eqb n 0) (say Error NameZero) _ _ refl λ x.
@@ -119,7 +119,7 @@ module _ {cap : ℕ} (st : State) (w : Regular cap st) (room G i s : ℕ) where
           }
 
   pub unregisters : (n : ℕ)
-      → Agrees (settled (inside room (st .size) G i (UnregisterName s n) (find s (st .groups)))) (transition (Within (UnregisterName s n)) i (published st))
+      → Agrees (settled (inside room (st .size) G i (unregister-name s n) (find s (st .groups)))) (transition (UnregisterName s n) i (published st))
   unfolding inside published transition
   unregisters n =
       by-refusal settled (eqb n 0) (say Error NameZero) _ _ refl λ x.
@@ -133,7 +133,7 @@ module _ {cap : ℕ} (st : State) (w : Regular cap st) (room G i s : ℕ) where
   looks (some p) = kept st s i _ Done (P.Pid p) refl
 
   pub looks-up : (n : ℕ) → eqb s 0 ≡ false
-      → Agrees (settled (inside room (st .size) G i (WhereisName s n) (find s (st .groups)))) (transition (Within (WhereisName s n)) i (published st))
+      → Agrees (settled (inside room (st .size) G i (whereis-name s n) (find s (st .groups)))) (transition (WhereisName s n) i (published st))
   unfolding inside published transition
   looks-up n named =
       by-refusal settled (eqb n 0) (say Error NameZero) _ _ refl λ x. rw named (go (find s (st .groups)))
@@ -152,7 +152,7 @@ module _ {cap : ℕ} (st : State) (w : Regular cap st) (room G i s : ℕ) where
       go (some g) = inner g (has (g .members) i)
 
   pub lists : s < group-names
-      → Agrees (settled (inside room (st .size) G i (RegisteredNames s) (find s (st .groups)))) (transition (Within (RegisteredNames s)) i (published st))
+      → Agrees (settled (inside room (st .size) G i (registered-names s) (find s (st .groups)))) (transition (RegisteredNames s) i (published st))
   unfolding inside published transition apply
   lists small =
       by-member st s i (Listed 0) (P.Nss (λ t. P.nobody)) (ap Seen.listed (runs-none (group-names * half-word) 0)) (find s (st .groups))

@@ -9,9 +9,8 @@ use Rattle.nodes.specs.Sets.{node-limit, has}
 use Rattle.entries.specs.Entries.{half-word, host}
 use Rattle.semantics.specs.Sizes.{group-names}
 use Rattle.commands.specs.declared.Command.{Command}
-use Rattle.commands.specs.declared.Command.the-variants.{Within, WhereisNameAt, SendAt, Send, SendName, DeleteSGroup, OwnNodes, OwnSGroups}
+use Rattle.commands.specs.declared.Command.the-variants.{RegisterName, ReRegisterName, UnregisterName, RegisteredNames, WhereisName, WhereisNameAt, Send, SendName, SendAt, NewSGroup, AddNodes, DeleteSGroup, OwnNodes, OwnSGroups}
 use Rattle.commands.specs.declared.Command.the-variants as Command
-use Rattle.commands.specs.declared.GroupCommand.the-variants.{RegisterName, ReRegisterName, UnregisterName, WhereisName, RegisteredNames, AddNodes, NewSGroup}
 use Rattle.semantics.specs.Ranges.{held}
 
 -- ---- sets and maps
@@ -292,29 +291,29 @@ then-send ni found X = of-some (gives Undefined X) (λ p. gives (Pid p) (AddConn
 
 -- the fifteen; who is not a member gets False from unregister_name, and Error from delete_s_group and remove_nodes, where 000 has False (01)
 unfoldable pub transition : Command → ℕ → Published → Step
-transition (Within (RegisterName s n p)) ni X =
+transition (RegisterName s n p) ni X =
     as-member ni s False X λ g.
     cond (not (held (g .namespace n)) && not (has-pid p (g .namespace)))
     (gives True (with-group s (g .nodes) (with-at n p (g .namespace)) X))
     (gives False X)
-transition (Within (ReRegisterName s n p)) ni X =
+transition (ReRegisterName s n p) ni X =
     as-member ni s False X λ g.
     cond (not (has-pid p (g .namespace)))
     (gives True (with-group s (g .nodes) (with-at n p (less-at n (g .namespace))) X))
     (gives False X)
-transition (Within (UnregisterName s n)) ni X =
+transition (UnregisterName s n) ni X =
     as-member ni s False X λ g.
     cond (held (g .namespace n)) (gives True (with-group s (g .nodes) (less-at n (g .namespace)) X)) (gives True X)
-transition (Within (RegisteredNames s)) ni X =
+transition (RegisteredNames s) ni X =
     as-member ni s (Nss (λ t. nobody)) X λ g. gives (Nss (OutputNs s (g .namespace))) X
-transition (Within (WhereisName s n)) ni X = gives (of-some Undefined Pid (found-by ni s n (X .grs))) X
+transition (WhereisName s n) ni X = gives (of-some Undefined Pid (found-by ni s n (X .grs))) X
 transition (WhereisNameAt ni′ s n) ni X = gives (of-some Undefined Pid (FindName ni′ s n (X .grs))) (AddConnections ni ni′ X)
 transition (Send p) ni X = gives (Pid p) (AddConnections ni (host p) X)
 transition (SendName s n) ni X = then-send ni (found-by ni s n (X .grs)) X
 transition (SendAt ni′ s n) ni X = then-send ni (FindName ni′ s n (X .grs)) (AddConnections ni ni′ X)
-transition (Within (NewSGroup s set)) ni X =
+transition (NewSGroup s set) ni X =
     cond (has set ni) (gives (Grp s (has set)) (joining s (has set) (has set) (λ n. none) X)) (gives Error X)
-transition (Within (AddNodes s set)) ni X =
+transition (AddNodes s set) ni X =
     as-member ni s Error X λ g. gives (Grp s (has set)) (joining s (has set) (g .nodes ∪ has set) (g .namespace) X)
 transition (DeleteSGroup s) ni X = as-member ni s Error X λ g. gives True (leaving s (g .nodes) (less-at s (X .grs)) X)
 -- the caller may leave too, and an s_group left empty goes (01)

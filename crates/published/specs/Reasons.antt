@@ -18,9 +18,8 @@ use Rattle.semantics.specs.Sizes.{group-limit, names-per-group, group-names}
 use Rattle.semantics.specs.State.{Group, State, find}
 use Rattle.semantics.specs.Steps as W
 use Rattle.commands.specs.declared.Command.{Command}
-use Rattle.commands.specs.declared.Command.the-variants.{Within, WhereisNameAt, SendAt, Send, SendName, RemoveNodes, DeleteSGroup, OwnNodes, OwnSGroups}
-use Rattle.commands.specs.declared.GroupCommand.{GroupCommand}
-use Rattle.commands.specs.declared.GroupCommand.the-variants.{RegisterName, ReRegisterName, UnregisterName, WhereisName, RegisteredNames, AddNodes, NewSGroup}
+use Rattle.commands.specs.declared.Command.the-variants.{RegisterName, ReRegisterName, UnregisterName, RegisteredNames, WhereisName, WhereisNameAt, Send, SendName, SendAt, NewSGroup, AddNodes, RemoveNodes, DeleteSGroup, OwnNodes, OwnSGroups}
+use Rattle.semantics.specs.GroupCommands.{GroupCommand, register-name, re-register-name, unregister-name, whereis-name, registered-names, add-nodes, new-s-group, within}
 use Rattle.semantics.specs.Ranges.{held, bad-group}
 use Rattle.semantics.specs.Steps.{Result, Outcome, Effect, error, say, done, settle, told, inside, outcome, group-step, apply, for-member, tell, ask, look-in, look-reason, own-list, rule, step}
 use Rattle.answers.specs.declared.Value.{Value}
@@ -136,7 +135,7 @@ module _ {cap : ℕ} (st : State) (w : Regular cap st) (s : ℕ) (g : Group) (f 
       ∙ ap (leb names-per-group) (count-names (g .names) names-up)
 
   list-test : (room i : ℕ) → s < group-names → has (g .members) i ≡ true
-      → run-short room (transition (Within (RegisteredNames s)) i (published st)) ≡ ltb room (length (W.name-words s (g .names)))
+      → run-short room (transition (RegisteredNames s) i (published st)) ≡ ltb room (length (W.name-words s (g .names)))
   unfolding published transition
   list-test room i small m = rw (f, m) (ap (λ (l : List ℕ). ltb room (length l)) (words-seen s small (g .names) names-up))
 
@@ -182,10 +181,10 @@ module _ {cap : ℕ} (room i s : ℕ) (st : State) (w : Regular cap st) where
       or-error st s (beyond set (st .size)) _ NodeUnknown _ _ (stray-test st set small) refl λ x.
       by-member st s i Error (find s (st .groups)) k _ λ g f m. last st _ (h g)
 
-told-within : {cap : ℕ} (room i : ℕ) (c : GroupCommand) (st : State) → Regular cap st → Fits (Within c)
-    → Told (group-step room i c st) (tests room (Within c) i (published st)) st
+told-within : {cap : ℕ} (room i : ℕ) (c : GroupCommand) (st : State) → Regular cap st → Fits (within c)
+    → Told (group-step room i c st) (tests room (within c) i (published st)) st
 unfolding group-step outcome inside published tests
-told-within room i (RegisterName s n p) st w fits =
+told-within room i (register-name s n p) st w fits =
     begin room i s st w _ _ λ q.
     or-error st s (eqb n 0) _ NameZero _ _ refl refl λ x.
     or-error st s (leb (st .size) (host p)) _ NodeUnknown _ _ (roster-test st (host p)) refl λ y.
@@ -194,7 +193,7 @@ told-within room i (RegisterName s n p) st w fits =
     by st (λ o. settle s o st) (holds-pid p (g .names)) _ PidTaken _ _ _ (pid-test st w s g f p) (mild st _ PidTaken refl refl) λ u.
     by st (λ o. settle s o st) (W.full (g .names)) _ NamespaceFull _ _ _ (full-test st w s g f) (refuses st s NamespaceFull False refl) λ v.
     last st _ refl
-told-within room i (ReRegisterName s n p) st w fits =
+told-within room i (re-register-name s n p) st w fits =
     begin room i s st w _ _ λ q.
     or-error st s (eqb n 0) _ NameZero _ _ refl refl λ x.
     or-error st s (leb (st .size) (host p)) _ NodeUnknown _ _ (roster-test st (host p)) refl λ y.
@@ -203,23 +202,23 @@ told-within room i (ReRegisterName s n p) st w fits =
     by st (λ o. settle s o st) (not (held (lookup n (g .names))) && W.full (g .names)) _ NamespaceFull _ _ _
     (ap₂ (λ (a b : Bool). not a && b) (name-test st w s g f n) (full-test st w s g f)) (refuses st s NamespaceFull False refl) λ v.
     last st _ refl
-told-within room i (UnregisterName s n) st w fits =
+told-within room i (unregister-name s n) st w fits =
     begin room i s st w _ _ λ q.
     or-error st s (eqb n 0) _ NameZero _ _ refl refl λ x.
     by-member st s i False (find s (st .groups)) _ _ λ g f m.
     unregistered st s _ (held (lookup n (g .names))) _ (name-test st w s g f n)
-told-within room i (WhereisName s n) st w fits =
+told-within room i (whereis-name s n) st w fits =
     begin room i s st w _ _ λ q.
     or-error st s (eqb n 0) _ NameZero _ _ refl refl λ x.
     by-member st s i Undefined (find s (st .groups)) (λ g. say (W.pid-or-undefined (lookup n (g .names))) (look-reason (lookup n (g .names)))) _ λ g f m.
     looked-up st s (lookup n (g .names)) _ (names-are st w s g f n)
-told-within room i (RegisteredNames s) st w fits =
+told-within room i (registered-names s) st w fits =
     begin room i s st w _ _ λ q.
     by-member st s i (Listed 0) (find s (st .groups)) (λ g. W.listed room (W.name-words s (g .names))) _ λ g f m.
     or-error st s (ltb room (length (W.name-words s (g .names)))) _ RunShort _ _ (list-test st w s g f room i (in-range room i s st w q) m) refl λ x.
     last st _ refl
-told-within room i (AddNodes s set) st w fits = told-set room i s st w set (fits .1) _ (λ g. refl)
-told-within room i (NewSGroup s set) st w fits =
+told-within room i (add-nodes s set) st w fits = told-set room i s st w set (fits .1) _ (λ g. refl)
+told-within room i (new-s-group s set) st w fits =
     begin room i s st w _ _ λ q.
     or-error st s (beyond set (st .size)) _ NodeUnknown _ _ (stray-test st set (fits .1)) refl λ x.
     by st (λ o. settle s o st) (not (has set i)) _ CallerOutside _ _ _ refl (mild st _ CallerOutside refl refl) λ y.
@@ -291,10 +290,19 @@ module _ {cap : ℕ} (st : State) (w : Regular cap st) (i : ℕ) where
       or-wrong st (leb (st .size) j) _ NodeUnknown _ _ (roster-test st j) refl λ z.
       record { why = mild st _ _ (ask-why st w j s n .reason-is) (ask-why st w j s n .has-rule) })
 
+told-group : {cap : ℕ} (room i : ℕ) (c : GroupCommand) (st : State) → Regular cap st → Fits (within c) → Told (step room i (within c) st) (tests room (within c) i (published st)) st
+told-group room i c st w fits =
+    subst (λ (r : Result). Told r (tests room (within c) i (published st)) st) (sym (step-within room i c st)) (told-within room i c st w fits)
+
 told-step : {cap : ℕ} (room i : ℕ) (c : Command) (st : State) → Regular cap st → Fits c → Told (step room i c st) (tests room c i (published st)) st
 unfolding step rule published tests transition
-told-step room i (Within c) st w fits =
-    subst (λ (r : Result). Told r (tests room (Within c) i (published st)) st) (sym (step-within room i c st)) (told-within room i c st w fits)
+told-step room i (RegisterName s n p) st w fits = told-group room i (register-name s n p) st w fits
+told-step room i (ReRegisterName s n p) st w fits = told-group room i (re-register-name s n p) st w fits
+told-step room i (UnregisterName s n) st w fits = told-group room i (unregister-name s n) st w fits
+told-step room i (RegisteredNames s) st w fits = told-group room i (registered-names s) st w fits
+told-step room i (WhereisName s n) st w fits = told-group room i (whereis-name s n) st w fits
+told-step room i (NewSGroup s set) st w fits = told-group room i (new-s-group s set) st w fits
+told-step room i (AddNodes s set) st w fits = told-group room i (add-nodes s set) st w fits
 told-step room i (WhereisNameAt j s n) st w fits = told-at st w i j s n (W.connect i j st)
 told-step room i (SendAt j s n) st w fits = told-at st w i j s n (W.send-on i (ask j s n st .found) (W.connect i j st))
 told-step room i (Send p) st w fits =

@@ -11,8 +11,7 @@ use Rattle.entries.specs.Entries.{half-word, host}
 use Rattle.answers.specs.Answers.{number}
 use Rattle.semantics.specs.Sizes.{group-limit, names-per-group, group-names, table-words}
 use Rattle.commands.specs.declared.Command.{Command}
-use Rattle.commands.specs.declared.Command.the-variants.{Within, WhereisNameAt, SendAt, Send, SendName, RemoveNodes, DeleteSGroup, OwnNodes, OwnSGroups}
-use Rattle.commands.specs.declared.GroupCommand.the-variants.{RegisterName, ReRegisterName, UnregisterName, WhereisName, RegisteredNames, AddNodes, NewSGroup}
+use Rattle.commands.specs.declared.Command.the-variants.{RegisterName, ReRegisterName, UnregisterName, RegisteredNames, WhereisName, WhereisNameAt, Send, SendName, SendAt, NewSGroup, AddNodes, RemoveNodes, DeleteSGroup, OwnNodes, OwnSGroups}
 use Rattle.answers.specs.Answers.{answer-of}
 use Rattle.semantics.specs.Ranges.{held, bad-group}
 use Rattle.answers.specs.declared.Answer.{Answer}
@@ -89,21 +88,21 @@ tests-set s set ni X =
 
 -- the reasons that a command can have, by number; room is how many words the run for a list has
 unfoldable pub tests : ℕ → Command → ℕ → Published → List Test
-tests room (Within (RegisterName s n p)) ni X =
+tests room (RegisterName s n p) ni X =
     CallerUnknown when off-roster ni X ∷ GroupNameRange when bad-group s ∷ NameZero when eqb n 0 ∷ NodeUnknown when off-roster (host p) X
     ∷ GroupUnknown when unknown s X ∷ NotMember when outsider ni s X ∷ NameTaken when held (names-in s X n)
     ∷ PidTaken when has-pid p (names-in s X) ∷ NamespaceFull when full s X ∷ []
-tests room (Within (ReRegisterName s n p)) ni X =
+tests room (ReRegisterName s n p) ni X =
     CallerUnknown when off-roster ni X ∷ GroupNameRange when bad-group s ∷ NameZero when eqb n 0 ∷ NodeUnknown when off-roster (host p) X
     ∷ GroupUnknown when unknown s X ∷ NotMember when outsider ni s X ∷ PidTaken when has-pid p (names-in s X)
     ∷ NamespaceFull when (not (held (names-in s X n)) && full s X) ∷ []
-tests room (Within (UnregisterName s n)) ni X = tests-name s n ni X
-tests room (Within (WhereisName s n)) ni X = tests-name s n ni X
-tests room (Within (RegisteredNames s)) ni X =
+tests room (UnregisterName s n) ni X = tests-name s n ni X
+tests room (WhereisName s n) ni X = tests-name s n ni X
+tests room (RegisteredNames s) ni X =
     CallerUnknown when off-roster ni X ∷ GroupNameRange when bad-group s ∷ GroupUnknown when unknown s X ∷ NotMember when outsider ni s X
-    ∷ RunShort when run-short room (transition (Within (RegisteredNames s)) ni X) ∷ []
-tests room (Within (AddNodes s set)) ni X = tests-set s set ni X
-tests room (Within (NewSGroup s set)) ni X =
+    ∷ RunShort when run-short room (transition (RegisteredNames s) ni X) ∷ []
+tests room (AddNodes s set) ni X = tests-set s set ni X
+tests room (NewSGroup s set) ni X =
     CallerUnknown when off-roster ni X ∷ GroupNameRange when bad-group s ∷ NodeUnknown when strays (has set) X
     ∷ CallerOutside when not (has set ni) ∷ GroupTaken when held (X .grs s)
     ∷ GroupsFull when leb group-limit (count group-names (λ t. held (X .grs t))) ∷ []

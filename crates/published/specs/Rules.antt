@@ -13,9 +13,8 @@ use Rattle.semantics.specs.Sizes.{group-names}
 use Rattle.semantics.specs.State.{Group, State, find}
 use Rattle.semantics.specs.Steps as W
 use Rattle.commands.specs.declared.Command.{Command}
-use Rattle.commands.specs.declared.Command.the-variants.{Within, WhereisNameAt, SendAt, Send, SendName, RemoveNodes, DeleteSGroup, OwnNodes, OwnSGroups}
-use Rattle.commands.specs.declared.GroupCommand.{GroupCommand}
-use Rattle.commands.specs.declared.GroupCommand.the-variants.{RegisterName, ReRegisterName, UnregisterName, WhereisName, RegisteredNames, AddNodes, NewSGroup}
+use Rattle.commands.specs.declared.Command.the-variants.{RegisterName, ReRegisterName, UnregisterName, RegisteredNames, WhereisName, WhereisNameAt, Send, SendName, SendAt, NewSGroup, AddNodes, RemoveNodes, DeleteSGroup, OwnNodes, OwnSGroups}
+use Rattle.semantics.specs.GroupCommands.{GroupCommand, register-name, re-register-name, unregister-name, whereis-name, registered-names, add-nodes, new-s-group, within}
 use Rattle.semantics.specs.Ranges.{bad-group}
 use Rattle.semantics.specs.Steps.{Result, reply, error, say, settle, told, target, inside, outcome, group-step, ask, send-on, tell, own-list, connect, rule, step}
 use Rattle.answers.specs.declared.Value.the-variants.{Error}
@@ -41,14 +40,14 @@ use Rattle.published.specs.OwnRules.{own-said, own-list-seen}
 
 module _ {cap : ℕ} (st : State) (w : Regular cap st) (room G i : ℕ) where
   agree-inside : (c : GroupCommand) → bad-group (target c) ≡ false
-      → Agrees (settle (target c) (inside room (st .size) G i c (find (target c) (st .groups))) st) (transition (Within c) i (published st))
-  agree-inside (RegisterName s n p) ok = registers st w room G i s n p
-  agree-inside (ReRegisterName s n p) ok = re-registers st w room G i s n p
-  agree-inside (UnregisterName s n) ok = unregisters st w room G i s n
-  agree-inside (WhereisName s n) ok = looks-up st w room G i s n (neither (eqb s 0) (leb group-names s) ok .0)
-  agree-inside (RegisteredNames s) ok = lists st w room G i s (leb-false group-names s (neither (eqb s 0) (leb group-names s) ok .1))
-  agree-inside (AddNodes s set) ok = adds st w room G i s (leb-false group-names s (neither (eqb s 0) (leb group-names s) ok .1)) set
-  agree-inside (NewSGroup s set) ok = creates st w room G i s (leb-false group-names s (neither (eqb s 0) (leb group-names s) ok .1)) set
+      → Agrees (settle (target c) (inside room (st .size) G i c (find (target c) (st .groups))) st) (transition (within c) i (published st))
+  agree-inside (register-name s n p) ok = registers st w room G i s n p
+  agree-inside (re-register-name s n p) ok = re-registers st w room G i s n p
+  agree-inside (unregister-name s n) ok = unregisters st w room G i s n
+  agree-inside (whereis-name s n) ok = looks-up st w room G i s n (neither (eqb s 0) (leb group-names s) ok .0)
+  agree-inside (registered-names s) ok = lists st w room G i s (leb-false group-names s (neither (eqb s 0) (leb group-names s) ok .1))
+  agree-inside (add-nodes s set) ok = adds st w room G i s (leb-false group-names s (neither (eqb s 0) (leb group-names s) ok .1)) set
+  agree-inside (new-s-group s set) ok = creates st w room G i s (leb-false group-names s (neither (eqb s 0) (leb group-names s) ok .1)) set
 
 -- ---- lookups and sends
 
@@ -116,12 +115,22 @@ sends st w i i-in (some p) near r = record { state = connects st w i (host p) i-
 abbrev itself : Result → Result
 itself r = r
 
-agree-rule : {cap : ℕ} (room i : ℕ) (c : Command) (st : State) → Regular cap st → i < st .size → Agrees (rule room i c st) (transition c i (published st))
-unfolding rule group-step outcome published transition
-agree-rule room i (Within c) st w h =
+agree-group : {cap : ℕ} (room i : ℕ) (c : GroupCommand) (st : State) → Regular cap st → Agrees (group-step room i c st) (transition (within c) i (published st))
+unfolding group-step outcome
+agree-group room i c st w =
     by-refusal (λ o. settle (target c) o st) (leb (st .size) i) (say Error CallerUnknown) _ _ refl λ x.
     by-refusal (λ o. settle (target c) o st) (bad-group (target c)) (say Error GroupNameRange) _ _ refl λ y.
     agree-inside st w room (length (st .groups)) i c y
+
+agree-rule : {cap : ℕ} (room i : ℕ) (c : Command) (st : State) → Regular cap st → i < st .size → Agrees (rule room i c st) (transition c i (published st))
+unfolding rule published transition
+agree-rule room i (RegisterName s n p) st w h = agree-group room i (register-name s n p) st w
+agree-rule room i (ReRegisterName s n p) st w h = agree-group room i (re-register-name s n p) st w
+agree-rule room i (UnregisterName s n) st w h = agree-group room i (unregister-name s n) st w
+agree-rule room i (RegisteredNames s) st w h = agree-group room i (registered-names s) st w
+agree-rule room i (WhereisName s n) st w h = agree-group room i (whereis-name s n) st w
+agree-rule room i (NewSGroup s set) st w h = agree-group room i (new-s-group s set) st w
+agree-rule room i (AddNodes s set) st w h = agree-group room i (add-nodes s set) st w
 agree-rule room i (WhereisNameAt j s n) st w h =
     by-refusal itself (leb group-names s) (error GroupNameRange st) _ _ refl λ x.
     by-refusal itself (eqb n 0) (error NameZero st) _ _ refl λ y.

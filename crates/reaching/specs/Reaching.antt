@@ -10,7 +10,7 @@ use Rattle.nodes.specs.Sets.{node-limit, has}
 use Rattle.entries.specs.Entries.{host, lookup}
 use Rattle.semantics.specs.Sizes.{names-per-group}
 use Rattle.semantics.specs.State.{Group, State, find}
-use Rattle.commands.specs.declared.Command.the-variants.{WhereisNameAt, SendAt, SendName}
+use Rattle.commands.specs.declared.Command.the-variants.{WhereisNameAt, SendName, SendAt}
 use Rattle.answers.specs.Answers.{answer-of}
 use Rattle.semantics.specs.Steps.{connect, pid-or-undefined, Looked, looked, nothing-found, look-in, ask, send-on}
 use Rattle.semantics.specs.Test.{sound}

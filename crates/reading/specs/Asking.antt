@@ -9,8 +9,7 @@ use borrow.Author.Tests.{ne-eqb}
 use Rattle.nodes.specs.Sets.{has}
 use Rattle.nodes.specs.Bools.{by-test}
 use Rattle.semantics.specs.State.{Group, State, find}
-use Rattle.commands.specs.declared.Command.the-variants.{Within}
-use Rattle.commands.specs.declared.GroupCommand.the-variants.{WhereisName}
+use Rattle.commands.specs.declared.Command.the-variants.{WhereisName}
 use Rattle.semantics.specs.Steps.{as-member, look-in, ask, tell, apply, settle}
 use Rattle.answers.specs.declared.Value.the-variants.{Undefined}
 use Rattle.answers.specs.declared.Reason.{Reason}
@@ -25,7 +24,7 @@ told i s n st none = refl
 told i s n st (some g) = ⊎-elim (λ (h : has (g .members) i ≡ true). rw h) (λ (h : has (g .members) i ≡ false). rw h) (by-test (has (g .members) i))
 
 pub whereis-told : (room i s n : ℕ) (st : State) {q : Reason} → q ≡ name-reason (st .size) i s n → q ≡ Done
-    → Goes room i (Within (WhereisName s n)) st (tell (ask i s n st) st)
+    → Goes room i (WhereisName s n) st (tell (ask i s n st) st)
 whereis-told room i s n st e h =
     let s-given = group-done (st .size) i s (name-done (st .size) i s n (sym e ∙ h) .0) in
     record { is = passed (step-whereis room i st s n .judging) e h .is ∙ told i s n st (find s (st .groups)) ∙ rw (ne-eqb s 0 (λ z. omega (arith, s-given .1, z))) }

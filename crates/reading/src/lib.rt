@@ -19,8 +19,7 @@ ghost use Prim.Native.Nat.{_<_};
 ghost use lib.ListN.{length};
 ghost use Rattle.semantics.specs.Sizes.{group-limit, names-per-group, table-words};
 ghost use Rattle.semantics.specs.State.{State};
-ghost use Rattle.commands.specs.declared.Command.the-variants.{Within};
-ghost use Rattle.commands.specs.declared.GroupCommand.the-variants.{RegisteredNames, WhereisName};
+ghost use Rattle.commands.specs.declared.Command.the-variants.{RegisteredNames, WhereisName};
 ghost use Rattle.semantics.specs.Test.{sound};
 ghost use Rattle.semantics.specs.Call.{call, listed-over};
 ghost use Rattle.semantics.specs.Places.{group-at};
@@ -54,8 +53,8 @@ fn list_names(t: &[u64], at: usize, s: u32, out: &mut [u64]) -> Answer
 pub fn registered_names(t: &[u64], caller: u32, s: u32, out: &mut [u64]) -> Answer
     requires { ⌜ length (now t) ≡ table-words names-per-group ⌝ }
     requires { ⌜ sound names-per-group (now t) ≡ true ⌝ }
-    ensures { λ r. ⌜ r ≡ call (length (now (out .entry))) caller (Within (RegisteredNames s)) (now (t .entry)) .answer ⌝ }
-    ensures { λ _. ⌜ now (out .exit) ≡ listed-over (call (length (now (out .entry))) caller (Within (RegisteredNames s)) (now (t .entry)) .list) (now (out .entry)) ⌝ }
+    ensures { λ r. ⌜ r ≡ call (length (now (out .entry))) caller (RegisteredNames s) (now (t .entry)) .answer ⌝ }
+    ensures { λ _. ⌜ now (out .exit) ≡ listed-over (call (length (now (out .entry))) caller (RegisteredNames s) (now (t .entry)) .list) (now (out .entry)) ⌝ }
 {
     let size = t[SIZE_AT] as u32;
     let r = group_reason(size, caller, s);
@@ -78,7 +77,7 @@ pub fn registered_names(t: &[u64], caller: u32, s: u32, out: &mut [u64]) -> Answ
 pub fn whereis_name(t: &[u64], caller: u32, s: u32, n: u32) -> Answer
     requires { ⌜ length (now t) ≡ table-words names-per-group ⌝ }
     requires { ⌜ sound names-per-group (now t) ≡ true ⌝ }
-    ensures { λ r. ⌜ r ≡ call 0 caller (Within (WhereisName s n)) (now (t .entry)) .answer ⌝ }
+    ensures { λ r. ⌜ r ≡ call 0 caller (WhereisName s n) (now (t .entry)) .answer ⌝ }
 {
     let size = t[SIZE_AT] as u32;
     let r = name_reason(size, caller, s, n);

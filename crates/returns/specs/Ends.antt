@@ -8,8 +8,7 @@ use lib.ListN.{length}
 use Rattle.semantics.specs.Sizes.{group-limit, names-per-group}
 use Rattle.semantics.specs.State.{Group}
 use Rattle.commands.specs.declared.Command.{Command}
-use Rattle.commands.specs.declared.Command.the-variants.{Within}
-use Rattle.commands.specs.declared.GroupCommand.{GroupCommand}
+use Rattle.semantics.specs.GroupCommands.{GroupCommand, within}
 use Rattle.answers.specs.Answers.{answer-of}
 use Rattle.semantics.specs.Steps.{target, Outcome, Result}
 use Rattle.semantics.specs.Test.{sound}
@@ -41,15 +40,15 @@ module _ (t : List ℕ) (ok : sound names-per-group t ≡ true) where
   opened i s {k} a e d = granted-here t ok i s a (Member k) e d
 
   module _ {room i : ℕ} {c : GroupCommand} {r : Reason} {v : Value} {k : Group → Outcome} (f : For-members room i c (here t) r v k) {q : Reason} (e : q ≡ r) where
-    pub says-refused : is-done q ≡ false → Says room i (Within c) t (answer-of Error q) t
+    pub says-refused : is-done q ≡ false → Says room i (within c) t (answer-of Error q) t
     says-refused h = says-kept t ok (refused (f .judging) e h)
 
     module _ (h : q ≡ Done) where
-      pub says-denied : {d : Reason} (a : Access) → a ≡ place-for i (target c) (here t .groups) → a ≡ Denied d → Says room i (Within c) t (answer-of v d) t
+      pub says-denied : {d : Reason} (a : Access) → a ≡ place-for i (target c) (here t .groups) → a ≡ Denied d → Says room i (within c) t (answer-of v d) t
       says-denied {d} a p n = says-kept t ok (denied f e h (granted-here t ok i (target c) a (Denied d) p n))
 
       pub says-settled : {at : ℕ} (o : Open i (target c) at (here t .groups)) {a : Answer} {u : List ℕ}
-          → Settles (target c) (k (o .seat .group)) (here t) a u → Says room i (Within c) t a u
+          → Settles (target c) (k (o .seat .group)) (here t) a u → Says room i (within c) t a u
       says-settled o w = said t ok (allowed f e h o) w
 
   -- ---- with a run that is lent for a list
@@ -61,14 +60,14 @@ module _ (t : List ℕ) (ok : sound names-per-group t ≡ true) where
     heard o g e l = let q = lists t ok out g in (e ∙ q .0, l ∙ q .1)
 
     module _ {i : ℕ} {c : GroupCommand} {r : Reason} {v : Value} {k : Group → Outcome} (f : For-members (length out) i c (here t) r v k) {q : Reason} (e : q ≡ r) where
-      pub lists-refused : is-done q ≡ false → Lists i (Within c) t out (answer-of Error q) out
+      pub lists-refused : is-done q ≡ false → Lists i (within c) t out (answer-of Error q) out
       lists-refused h = lists t ok out (refused (f .judging) e h)
 
       module _ (h : q ≡ Done) where
-        pub lists-denied : {d : Reason} (a : Access) → a ≡ place-for i (target c) (here t .groups) → a ≡ Denied d → Lists i (Within c) t out (answer-of v d) out
+        pub lists-denied : {d : Reason} (a : Access) → a ≡ place-for i (target c) (here t .groups) → a ≡ Denied d → Lists i (within c) t out (answer-of v d) out
         lists-denied {d} a p n = lists t ok out (denied f e h (granted-here t ok i (target c) a (Denied d) p n))
 
-        pub lists-told : {at : ℕ} → Open i (target c) at (here t .groups) → {a : Answer} (o : List ℕ) → Told (k (group-at (here t .groups) at)) out a o → Lists i (Within c) t out a o
+        pub lists-told : {at : ℕ} → Open i (target c) at (here t .groups) → {a : Answer} (o : List ℕ) → Told (k (group-at (here t .groups) at)) out a o → Lists i (within c) t out a o
         lists-told p o w =
             let is = seat-group (p .seat) in
             heard o (allowed f e h p) (w .answer ∙ ap (λ (g : Group). k g .answer) is) (w .listed ∙ ap (λ (g : Group). listed-over (k g .list) out) is)

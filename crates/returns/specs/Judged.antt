@@ -12,9 +12,8 @@ use Rattle.entries.specs.Entries.{host, insert, remove, lookup, holds-pid}
 use Rattle.semantics.specs.Sizes.{group-limit, group-names}
 use Rattle.semantics.specs.State.{Group, State, find, drop-group}
 use Rattle.commands.specs.declared.Command.{Command}
-use Rattle.commands.specs.declared.Command.the-variants.{Within, WhereisNameAt, SendAt, Send, SendName, RemoveNodes, DeleteSGroup, OwnNodes, OwnSGroups}
-use Rattle.commands.specs.declared.GroupCommand.{GroupCommand}
-use Rattle.commands.specs.declared.GroupCommand.the-variants.{RegisterName, ReRegisterName, UnregisterName, WhereisName, RegisteredNames, AddNodes, NewSGroup}
+use Rattle.commands.specs.declared.Command.the-variants.{WhereisNameAt, Send, SendName, SendAt, NewSGroup, RemoveNodes, DeleteSGroup, OwnNodes, OwnSGroups}
+use Rattle.semantics.specs.GroupCommands.{GroupCommand, register-name, re-register-name, unregister-name, whereis-name, registered-names, add-nodes, new-s-group, within}
 use Rattle.semantics.specs.Ranges.{bad-group, held}
 use Rattle.semantics.specs.Steps.{connect, become-free, Result, reply, error, target, hold, join, create, Outcome, done, say, listed, as-member, pid-or-undefined, look-reason, full, name-words, inside, outcome, apply, settle, group-step, ask, tell, send-on, for-member, left-in, own-set, own-list, told, rule, step}
 use Rattle.semantics.specs.Within.{step-within}
@@ -139,7 +138,7 @@ pub record Judging (room i : ℕ) (c : Command) (st : State) (r : Reason) (w : R
 
 -- the step is a refusal by r, or v with reasons 8 and 9, or what k makes of the s_group
 pub record For-members (room i : ℕ) (c : GroupCommand) (st : State) (r : Reason) (v : Value) (k : Group → Outcome) : Type 0 where
-  pub judging : Judging room i (Within c) st r (settle (target c) (as-member i v (find (target c) (st .groups)) k) st)
+  pub judging : Judging room i (within c) st r (settle (target c) (as-member i v (find (target c) (st .groups)) k) st)
 
 module _ (room i : ℕ) (st : State) where
   settled : (s : ℕ) (r : Reason) (o : Outcome) → settle s (judged (say Error) r o) st ≡ judged (refusal st) r (settle s o st)
@@ -148,7 +147,7 @@ module _ (room i : ℕ) (st : State) where
 
   within-step : (c : GroupCommand) (r : Reason) (o : Outcome)
       → outcome room (st .size) (length (st .groups)) i c (find (target c) (st .groups)) ≡ judged (say Error) r o
-      → Judging room i (Within c) st r (settle (target c) o st)
+      → Judging room i (within c) st r (settle (target c) o st)
   unfolding group-step
   within-step c r o e = record { is = step-within room i c st ∙ ap (λ (x : Outcome). settle (target c) x st) e ∙ settled (target c) r o }
 
@@ -158,20 +157,20 @@ module _ (room i : ℕ) (st : State) where
   for-members {c} {r} {v} {k} e = record { judging = within-step c r (as-member i v (find (target c) (st .groups)) k) e }
 
   module _ (s n p : ℕ) where
-    pub step-register : For-members room i (RegisterName s n p) st (pid-reason (st .size) i s n p) False (register-in n p)
+    pub step-register : For-members room i (register-name s n p) st (pid-reason (st .size) i s n p) False (register-in n p)
     unfolding outcome inside
     step-register = for-members (by-pid (say Error) (st .size) i s n p _)
 
-    pub step-re-register : For-members room i (ReRegisterName s n p) st (pid-reason (st .size) i s n p) False (re-register-in n p)
+    pub step-re-register : For-members room i (re-register-name s n p) st (pid-reason (st .size) i s n p) False (re-register-in n p)
     unfolding outcome inside
     step-re-register = for-members (by-pid (say Error) (st .size) i s n p _)
 
   module _ (s n : ℕ) where
-    pub step-unregister : For-members room i (UnregisterName s n) st (name-reason (st .size) i s n) False (unregister-in n)
+    pub step-unregister : For-members room i (unregister-name s n) st (name-reason (st .size) i s n) False (unregister-in n)
     unfolding outcome inside
     step-unregister = for-members (by-name (say Error) (st .size) i s n _)
 
-    pub step-whereis : For-members room i (WhereisName s n) st (name-reason (st .size) i s n) Undefined (whereis-in n)
+    pub step-whereis : For-members room i (whereis-name s n) st (name-reason (st .size) i s n) Undefined (whereis-in n)
     unfolding outcome inside
     step-whereis = for-members (by-name (say Error) (st .size) i s n _)
 
@@ -179,19 +178,19 @@ module _ (room i : ℕ) (st : State) where
     unfolding step rule
     step-send-name = record { is = by-name (refusal st) (st .size) i s n _ }
 
-  pub step-names : (s : ℕ) → For-members room i (RegisteredNames s) st (group-reason (st .size) i s) (Listed 0) (names-in room s)
+  pub step-names : (s : ℕ) → For-members room i (registered-names s) st (group-reason (st .size) i s) (Listed 0) (names-in room s)
   unfolding outcome inside
   step-names s = for-members (by-group (say Error) (st .size) i s _)
 
   module _ (s set : ℕ) where
-    pub step-add : For-members room i (AddNodes s set) st (set-reason (st .size) i s set) Error (add-in s set)
+    pub step-add : For-members room i (add-nodes s set) st (set-reason (st .size) i s set) Error (add-in s set)
     unfolding outcome inside
     step-add = for-members (by-set (say Error) (st .size) i s set _)
 
-    pub step-new : Judging room i (Within (NewSGroup s set)) st (creation-reason (st .size) (length (st .groups)) i s set (held (find s (st .groups)))) (settle s (done (create set) (Grouped s set)) st)
+    pub step-new : Judging room i (NewSGroup s set) st (creation-reason (st .size) (length (st .groups)) i s set (held (find s (st .groups)))) (settle s (done (create set) (Grouped s set)) st)
     unfolding outcome inside
     step-new =
-        within-step (NewSGroup s set) (creation-reason (st .size) (length (st .groups)) i s set (held (find s (st .groups)))) (done (create set) (Grouped s set))
+        within-step (new-s-group s set) (creation-reason (st .size) (length (st .groups)) i s set (held (find s (st .groups)))) (done (create set) (Grouped s set))
         (by-creation (say Error) (st .size) (length (st .groups)) i s set (held (find s (st .groups))) _)
 
     pub step-remove : Judging room i (RemoveNodes s set) st (set-reason (st .size) i s set) (for-member i (find s (st .groups)) st (λ g.
@@ -236,9 +235,9 @@ module _ {room i : ℕ} {c : Command} {st : State} {r : Reason} {w : Result} (j 
 
 module _ {room i : ℕ} {c : GroupCommand} {st : State} {r : Reason} {v : Value} {k : Group → Outcome} (f : For-members room i c st r v k) {q : Reason} (e : q ≡ r)
     (h : q ≡ Done) where
-  pub denied : {d : Reason} → Shut i (target c) (st .groups) d → Goes room i (Within c) st (reply v d st)
+  pub denied : {d : Reason} → Shut i (target c) (st .groups) d → Goes room i (within c) st (reply v d st)
   unfolding apply
   denied d = record { is = passed (f .judging) e h .is ∙ ap (λ (o : Outcome). settle (target c) o st) (d .outcomes v k) }
 
-  pub allowed : {at : ℕ} (o : Open i (target c) at (st .groups)) → Goes room i (Within c) st (settle (target c) (k (o .seat .group)) st)
+  pub allowed : {at : ℕ} (o : Open i (target c) at (st .groups)) → Goes room i (within c) st (settle (target c) (k (o .seat .group)) st)
   allowed o = record { is = passed (f .judging) e h .is ∙ rw (o .seat .finds, o .member) }

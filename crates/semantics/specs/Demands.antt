@@ -9,7 +9,7 @@ use lib.ListN.{length}
 use Rattle.nodes.specs.Bools.{by-test}
 use Rattle.semantics.specs.Sizes.{group-limit, names-per-group}
 use Rattle.semantics.specs.State.{State}
-use Rattle.commands.specs.declared.Command.the-variants.{Within}
+use Rattle.semantics.specs.GroupCommands.{within}
 use Rattle.answers.specs.Answers.{answer-of}
 use Rattle.semantics.specs.Steps.{creates}
 use Rattle.semantics.specs.Table.{sections, layout, state-of}
@@ -39,11 +39,11 @@ does : (t : Turn Line) (m : List (Turn Line)) (st : State) → Regular names-per
     × (call-say (t .line) (layout names-per-group st) ≡ step-say (t .line) st)
     × (Regular names-per-group (step-move (t .line) st) × Turns-fit m)
 does t m st h =
-    let e = call-layout (t .line .room) (t .line .caller) (Within (t .line .command)) st (h .0) in (
+    let e = call-layout (t .line .room) (t .line .caller) (within (t .line .command)) st (h .0) in (
       ap (λ (c : Call). c .table) e,
       ap said-by-call e,
       (
-        keeps (t .line .room) (t .line .caller) (Within (t .line .command)) st (h .0) (h .1 (t .script) (t .line) (of-head t m)),
+        keeps (t .line .room) (t .line .caller) (within (t .line .command)) st (h .0) (h .1 (t .script) (t .line) (of-head t m)),
         λ k a p. h .1 k a (of-tail k t m a p),
       ),
     )
@@ -57,7 +57,7 @@ refusal t = record { answer = answer-of Error (why t); list = [] }
 refuses : (t : List ℕ) → sound names-per-group t ≡ false → (x : Turn Line) (m : List (Turn Line)) (u : Unit {0}) → Unit {0}
     → (call-move (x .line) t ≡ t) × (call-say (x .line) t ≡ refusal t) × Unit {0}
 refuses t e x m u h =
-    let r = call-unsound (x .line .room) (x .line .caller) (Within (x .line .command)) t e in
+    let r = call-unsound (x .line .room) (x .line .caller) (within (x .line .command)) t e in
     (ap (λ (c : Call). c .table) r, ap said-by-call r, tt)
 
 -- ---- demand 3
@@ -124,6 +124,6 @@ pub isolated : (l : Line) → creates (l .command) ≡ false → (t u : List ℕ
     → size-of t ≡ size-of u → group-in (key l) t ≡ group-in (key l) u → call-say l t ≡ call-say l u
 unfolding state-of
 isolated l old t u p q n g =
-    ap said-by-call (call-sound (l .room) (l .caller) (Within (l .command)) t (sound-iff names-per-group t .1 p))
+    ap said-by-call (call-sound (l .room) (l .caller) (within (l .command)) t (sound-iff names-per-group t .1 p))
     ∙ isolation l (state-of names-per-group t) (state-of names-per-group u) old n g
-    ∙ sym (ap said-by-call (call-sound (l .room) (l .caller) (Within (l .command)) u (sound-iff names-per-group u .1 q)))
+    ∙ sym (ap said-by-call (call-sound (l .room) (l .caller) (within (l .command)) u (sound-iff names-per-group u .1 q)))

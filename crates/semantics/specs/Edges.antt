@@ -11,8 +11,7 @@ use Rattle.entries.specs.Entries.{Entry}
 use Rattle.semantics.specs.Sizes.{group-limit, names-per-group, group-names, table-words}
 use Rattle.semantics.specs.State.{Group}
 use Rattle.commands.specs.declared.Command.{Command}
-use Rattle.commands.specs.declared.Command.the-variants.{Within, WhereisNameAt, RemoveNodes, DeleteSGroup, OwnNodes, OwnSGroups}
-use Rattle.commands.specs.declared.GroupCommand.the-variants.{RegisterName, ReRegisterName, WhereisName, RegisteredNames, NewSGroup}
+use Rattle.commands.specs.declared.Command.the-variants.{RegisterName, ReRegisterName, RegisteredNames, WhereisName, WhereisNameAt, NewSGroup, RemoveNodes, DeleteSGroup, OwnNodes, OwnSGroups}
 use Rattle.answers.specs.Answers.{answer-of}
 use Rattle.semantics.specs.Steps.{name-words}
 use Rattle.semantics.specs.Table.{pad, layout}
@@ -46,8 +45,8 @@ list-of ws = record { answer = answer-of (Listed (length ws)) Done; list = ws }
 
 -- ---- the sample script
 
-pub sample : map said-by-call (run 4 8 blank (0 says Within (NewSGroup 5 3) ∷ 0 says Within (RegisterName 5 70 67108865) ∷ 1 says Within (WhereisName 5 70)
-    ∷ 2 says Within (WhereisName 5 70) ∷ 1 says Within (WhereisName 5 71) ∷ 0 says OwnNodes ∷ []))
+pub sample : map said-by-call (run 4 8 blank (0 says NewSGroup 5 3 ∷ 0 says RegisterName 5 70 67108865 ∷ 1 says WhereisName 5 70
+    ∷ 2 says WhereisName 5 70 ∷ 1 says WhereisName 5 71 ∷ 0 says OwnNodes ∷ []))
     ≡ told Ok Done ∷ told (Grouped 5 3) Done ∷ told True Done ∷ told (Pid 67108865) Done
     ∷ told Undefined NotMember ∷ told Undefined NotRegistered ∷ told (Nodes 3 2) Done ∷ []
 unfolding computing run calls
@@ -69,42 +68,42 @@ abbrev pub most : List Entry
 most = numbered 1 names-per-group
 
 -- the last name that fits goes in
-pub last-name-fits : call 0 0 (Within (RegisterName 5 names-per-group names-per-group)) (holding (numbered 1 (names-per-group - 1))) ≡ claim True Done (holding most)
+pub last-name-fits : call 0 0 (RegisterName 5 names-per-group names-per-group) (holding (numbered 1 (names-per-group - 1))) ≡ claim True Done (holding most)
 unfolding computing
 last-name-fits = refl
 
 -- one more does not
-pub one-more-refused : call 0 0 (Within (RegisterName 5 (names-per-group + 1) (names-per-group + 1))) (holding most) ≡ claim False NamespaceFull (holding most)
+pub one-more-refused : call 0 0 (RegisterName 5 (names-per-group + 1) (names-per-group + 1)) (holding most) ≡ claim False NamespaceFull (holding most)
 unfolding computing
 one-more-refused = refl
 
 -- a held name goes to a new pid
-pub held-name-renewed : call 0 1 (Within (ReRegisterName 5 1 0)) (holding most)
+pub held-name-renewed : call 0 1 (ReRegisterName 5 1 0) (holding most)
     ≡ claim True Done (holding (record { name = 1; pid = 0 } ∷ numbered 2 (names-per-group - 1)))
 unfolding computing
 held-name-renewed = refl
 
 -- a new name is refused there too
-pub new-name-refused : call 0 1 (Within (ReRegisterName 5 (names-per-group + 1) 0)) (holding most) ≡ claim False NamespaceFull (holding most)
+pub new-name-refused : call 0 1 (ReRegisterName 5 (names-per-group + 1) 0) (holding most) ≡ claim False NamespaceFull (holding most)
 unfolding computing
 new-name-refused = refl
 
 -- a new name with a held pid: 11 and not 13
-pub held-pid-first : (call 0 0 (Within (RegisterName 5 (names-per-group + 1) 1)) (holding most) ≡ claim False PidTaken (holding most))
-    × (call 0 0 (Within (ReRegisterName 5 (names-per-group + 1) 1)) (holding most) ≡ claim False PidTaken (holding most))
+pub held-pid-first : (call 0 0 (RegisterName 5 (names-per-group + 1) 1) (holding most) ≡ claim False PidTaken (holding most))
+    × (call 0 0 (ReRegisterName 5 (names-per-group + 1) 1) (holding most) ≡ claim False PidTaken (holding most))
 unfolding computing
 held-pid-first = (refl, refl)
 
 -- ---- room for a list
 
 -- one word short: 17
-pub room-short : (call (names-per-group - 1) 0 (Within (RegisteredNames 5)) (holding most) ≡ refused RunShort (holding most))
+pub room-short : (call (names-per-group - 1) 0 (RegisteredNames 5) (holding most) ≡ refused RunShort (holding most))
     × (call 1 0 OwnSGroups (holding []) ≡ refused RunShort (holding []))
 unfolding computing
 room-short = (refl, refl)
 
 -- as many words as the list has
-pub room-enough : (said-by-call (call names-per-group 0 (Within (RegisteredNames 5)) (holding most)) ≡ list-of (name-words 5 most))
+pub room-enough : (said-by-call (call names-per-group 0 (RegisteredNames 5) (holding most)) ≡ list-of (name-words 5 most))
     × (said-by-call (call 2 0 OwnSGroups (holding [])) ≡ list-of (5 ∷ 3 ∷ []))
 unfolding computing
 room-enough = (refl, refl)
@@ -134,14 +133,14 @@ abbrev pub two : List ℕ
 two = table-of 2 0 [] [] (1 ∷ 2 ∷ [])
 
 -- the highest name, 65,535, is taken
-pub highest-group : call 0 0 (Within (NewSGroup (group-names - 1) 1)) two
+pub highest-group : call 0 0 (NewSGroup (group-names - 1) 1) two
     ≡ claim (Grouped (group-names - 1) 1) Done (table-of 2 0 (record { name = group-names - 1; members = 1; names = [] } ∷ []) [] (0 ∷ 2 ∷ []))
 unfolding computing
 highest-group = refl
 
 -- the next one and zero are not
-pub group-beyond : (call 0 0 (Within (NewSGroup group-names 1)) two ≡ refused GroupNameRange two)
-    × (call 0 0 (Within (NewSGroup 0 1)) two ≡ refused GroupNameRange two)
+pub group-beyond : (call 0 0 (NewSGroup group-names 1) two ≡ refused GroupNameRange two)
+    × (call 0 0 (NewSGroup 0 1) two ≡ refused GroupNameRange two)
 unfolding computing
 group-beyond = (refl, refl)
 
@@ -157,12 +156,12 @@ abbrev pub grouped : ℕ → List ℕ
 grouped n = table-of 1 0 (lone 1 n) [] []
 
 -- the last that fits goes in
-pub last-group-fits : call 0 0 (Within (NewSGroup group-limit 1)) (grouped (group-limit - 1)) ≡ claim (Grouped group-limit 1) Done (grouped group-limit)
+pub last-group-fits : call 0 0 (NewSGroup group-limit 1) (grouped (group-limit - 1)) ≡ claim (Grouped group-limit 1) Done (grouped group-limit)
 unfolding computing
 last-group-fits = refl
 
 -- one more does not
-pub one-more-group-refused : call 0 0 (Within (NewSGroup (group-limit + 1) 1)) (grouped group-limit) ≡ refused GroupsFull (grouped group-limit)
+pub one-more-group-refused : call 0 0 (NewSGroup (group-limit + 1) 1) (grouped group-limit) ≡ refused GroupsFull (grouped group-limit)
 unfolding computing
 one-more-group-refused = refl
 

@@ -4,8 +4,7 @@ use Prim.Native.Nat.{ℕ, _^_, _<_}
 use Rattle.nodes.specs.Sets.{node-limit}
 use Rattle.entries.specs.Entries.{half-word}
 use Rattle.commands.specs.declared.Command.{Command}
-use Rattle.commands.specs.declared.Command.the-variants.{Within, WhereisNameAt, SendAt, Send, SendName, RemoveNodes, DeleteSGroup, OwnNodes, OwnSGroups}
-use Rattle.commands.specs.declared.GroupCommand.the-variants.{RegisterName, ReRegisterName, UnregisterName, WhereisName, RegisteredNames, AddNodes, NewSGroup}
+use Rattle.commands.specs.declared.Command.the-variants.{RegisterName, ReRegisterName, UnregisterName, RegisteredNames, WhereisName, WhereisNameAt, Send, SendName, SendAt, NewSGroup, AddNodes, RemoveNodes, DeleteSGroup, OwnNodes, OwnSGroups}
 
 -- a number of 32 digits
 abbrev pub Number : ℕ → Type 0
@@ -17,13 +16,13 @@ Set w = w < 2 ^ node-limit
 
 -- every argument fits
 abbrev pub Fits : Command → Type 0
-Fits (Within (RegisterName s n p)) = Number s × Number n × Number p
-Fits (Within (ReRegisterName s n p)) = Number s × Number n × Number p
-Fits (Within (UnregisterName s n)) = Number s × Number n
-Fits (Within (WhereisName s n)) = Number s × Number n
-Fits (Within (RegisteredNames s)) = Number s
-Fits (Within (AddNodes s set)) = Number s × Set set
-Fits (Within (NewSGroup s set)) = Number s × Set set
+Fits (RegisterName s n p) = Number s × Number n × Number p
+Fits (ReRegisterName s n p) = Number s × Number n × Number p
+Fits (UnregisterName s n) = Number s × Number n
+Fits (WhereisName s n) = Number s × Number n
+Fits (RegisteredNames s) = Number s
+Fits (AddNodes s set) = Number s × Set set
+Fits (NewSGroup s set) = Number s × Set set
 Fits (WhereisNameAt j s n) = Number j × Number s × Number n
 Fits (SendAt j s n) = Number j × Number s × Number n
 Fits (Send p) = Number p

@@ -15,9 +15,8 @@ use Rattle.entries.specs.Entries.{Entry, host, lookup, holds-pid}
 use Rattle.semantics.specs.Sizes.{group-limit, names-per-group, group-names, links-at}
 use Rattle.semantics.specs.State.{Group, State, with-groups, with-links, with-free, free-of, find, put, add-group, drop-group}
 use Rattle.commands.specs.declared.Command.{Command}
-use Rattle.commands.specs.declared.Command.the-variants.{Within, WhereisNameAt, SendAt, Send, SendName, RemoveNodes, DeleteSGroup, OwnNodes, OwnSGroups}
-use Rattle.commands.specs.declared.GroupCommand.{GroupCommand}
-use Rattle.commands.specs.declared.GroupCommand.the-variants.{RegisterName, ReRegisterName, UnregisterName, WhereisName, RegisteredNames, AddNodes, NewSGroup}
+use Rattle.commands.specs.declared.Command.the-variants.{RegisterName, ReRegisterName, UnregisterName, RegisteredNames, WhereisName, WhereisNameAt, Send, SendName, SendAt, NewSGroup, AddNodes, RemoveNodes, DeleteSGroup, OwnNodes, OwnSGroups}
+use Rattle.semantics.specs.GroupCommands.{GroupCommand, register-name, re-register-name, unregister-name, whereis-name, registered-names, add-nodes, new-s-group}
 use Rattle.semantics.specs.Ranges.{held, bad-group}
 use Rattle.semantics.specs.Steps.{meet, interconnect, leave-free, one-free-group, merge, connect, lot, touched, become-free, Effect, keep, hold, join, create, Outcome, Result, target, as-member, full, name-words, inside, outcome, apply, group-step, ask, send-on, asking, for-member, left-in, rule, step}
 use Rattle.semantics.specs.Table.{state-of}
@@ -132,18 +131,18 @@ module _ (G : ℕ) where
   -- an s_group is made only where there is room for it
   inside-space : (room N i : ℕ) (c : GroupCommand) (o : Option Group) → Space G (inside room N G i c o .effect)
   unfolding inside
-  inside-space room N i (RegisterName s n p) o =
+  inside-space room N i (register-name s n p) o =
       space-if (eqb n 0) _ _ tt λ x. space-if (leb N (host p)) _ _ tt λ x. space-member i _ o _ λ g.
       space-if (held (lookup n (g .names))) _ _ tt λ x. space-if (holds-pid p (g .names)) _ _ tt λ x. space-if (full (g .names)) _ _ tt λ x. tt
-  inside-space room N i (ReRegisterName s n p) o =
+  inside-space room N i (re-register-name s n p) o =
       space-if (eqb n 0) _ _ tt λ x. space-if (leb N (host p)) _ _ tt λ x. space-member i _ o _ λ g.
       space-if (holds-pid p (g .names)) _ _ tt λ x. space-if (not (held (lookup n (g .names))) && full (g .names)) _ _ tt λ x. tt
-  inside-space room N i (UnregisterName s n) o =
+  inside-space room N i (unregister-name s n) o =
       space-if (eqb n 0) _ _ tt λ x. space-member i _ o _ λ g. space-if (held (lookup n (g .names))) _ _ tt λ x. tt
-  inside-space room N i (WhereisName s n) o = space-if (eqb n 0) _ _ tt λ x. space-member i _ o _ λ g. tt
-  inside-space room N i (RegisteredNames s) o = space-member i _ o _ λ g. space-if (ltb room (length (name-words s (g .names)))) _ _ tt λ x. tt
-  inside-space room N i (AddNodes s set) o = space-if (beyond set N) _ _ tt λ x. space-member i _ o _ λ g. tt
-  inside-space room N i (NewSGroup s set) o =
+  inside-space room N i (whereis-name s n) o = space-if (eqb n 0) _ _ tt λ x. space-member i _ o _ λ g. tt
+  inside-space room N i (registered-names s) o = space-member i _ o _ λ g. space-if (ltb room (length (name-words s (g .names)))) _ _ tt λ x. tt
+  inside-space room N i (add-nodes s set) o = space-if (beyond set N) _ _ tt λ x. space-member i _ o _ λ g. tt
+  inside-space room N i (new-s-group s set) o =
       space-if (beyond set N) _ _ tt λ x. space-if (not (has set i)) _ _ tt λ x. space-if (held o) _ _ tt λ x.
       space-if (leb group-limit G) _ _ tt λ x. leb-false group-limit G x
 
@@ -189,7 +188,13 @@ left-in-few s m ns gs = go (empty m)
 -- a rule takes no connection away
 rule-grows : (room i : ℕ) (c : Command) (st : State) → Grown st (rule room i c st .next)
 unfolding rule
-rule-grows room i (Within c) st = group-step-grows room i c st
+rule-grows room i (RegisterName s n p) st = group-step-grows room i (register-name s n p) st
+rule-grows room i (ReRegisterName s n p) st = group-step-grows room i (re-register-name s n p) st
+rule-grows room i (UnregisterName s n) st = group-step-grows room i (unregister-name s n) st
+rule-grows room i (RegisteredNames s) st = group-step-grows room i (registered-names s) st
+rule-grows room i (WhereisName s n) st = group-step-grows room i (whereis-name s n) st
+rule-grows room i (NewSGroup s set) st = group-step-grows room i (new-s-group s set) st
+rule-grows room i (AddNodes s set) st = group-step-grows room i (add-nodes s set) st
 rule-grows room i (WhereisNameAt j s n) st = result-asking j s n st _ (connect-grows i j st)
 rule-grows room i (SendAt j s n) st = result-asking j s n st _ (connect-grows i j st then send-on-grows i (ask j s n st .found) (connect i j st))
 rule-grows room i (Send p) st = result-if (leb (st .size) (host p)) _ _ same (connect-grows i (host p) st)

@@ -1,5 +1,6 @@
 pub mod Sizes
 pub mod Ranges
+pub mod GroupCommands
 pub mod State
 pub mod Steps
 pub mod Table

@@ -8,8 +8,7 @@ use Prim.Native.Nat.{ℕ, _+_, _≤_}
 use lib.ListN.{length}
 use Rattle.semantics.specs.Sizes.{group-limit, names-per-group}
 use Rattle.semantics.specs.State.{Group, State, find}
-use Rattle.commands.specs.declared.Command.the-variants.{Within}
-use Rattle.commands.specs.declared.GroupCommand.{GroupCommand}
+use Rattle.semantics.specs.GroupCommands.{GroupCommand, within}
 use Rattle.semantics.specs.Steps.{Result, target, creates, step}
 use Rattle.semantics.specs.Fits.{Fits}
 use Rattle.semantics.specs.Table.{state-of}
@@ -34,7 +33,7 @@ key l = target (l .command)
 
 -- the arguments of a line fit
 abbrev pub Line-fits : Line → Type 0
-Line-fits l = Fits (Within (l .command))
+Line-fits l = Fits (within (l .command))
 
 -- ---- on a state
 
@@ -44,7 +43,7 @@ said-by-step r = record { answer = r .answer; list = r .list }
 
 -- the step of a line
 abbrev pub step-of : Line → State → Result
-step-of l st = step (l .room) (l .caller) (Within (l .command)) st
+step-of l st = step (l .room) (l .caller) (within (l .command)) st
 
 -- the state after a line
 abbrev pub step-move : Line → State → State
@@ -62,7 +61,7 @@ said-by-call c = record { answer = c .answer; list = c .list }
 
 -- the call of a line
 abbrev pub call-of : Line → List ℕ → Call
-call-of l t = call (l .room) (l .caller) (Within (l .command)) t
+call-of l t = call (l .room) (l .caller) (within (l .command)) t
 
 -- the table after a line
 abbrev pub call-move : Line → List ℕ → List ℕ

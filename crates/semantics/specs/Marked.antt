@@ -10,8 +10,7 @@ use Rattle.entries.specs.NamespaceSound.{is-ascending, is-distinct, is-hosted, 
 use Rattle.semantics.specs.Sizes.{names-per-group, table-words}
 use Rattle.semantics.specs.State.{Group, find, put, add-group, drop-group}
 use Rattle.commands.specs.declared.Command.{Command}
-use Rattle.commands.specs.declared.Command.the-variants.{Within, WhereisNameAt, DeleteSGroup}
-use Rattle.commands.specs.declared.GroupCommand.the-variants.{NewSGroup, RegisterName, ReRegisterName, UnregisterName, WhereisName}
+use Rattle.commands.specs.declared.Command.the-variants.{RegisterName, ReRegisterName, UnregisterName, WhereisName, WhereisNameAt, NewSGroup, DeleteSGroup}
 use Rattle.answers.specs.Answers.{answer-of}
 use Rattle.semantics.specs.Steps.{interconnect, leave-free, one-free-group, connect, become-free, inside, outcome, apply, group-step, rule, step, opened}
 use Rattle.semantics.specs.Table.{sections, layout, state-of}
@@ -43,15 +42,15 @@ run N hidden t ls = let r : Call = opening N hidden t in r ∷ calls (r .table) 
 -- M2 to M13
 abbrev pub marked : List Line
 marked =
-    0 says Within (NewSGroup 5 3)
-    ∷ 2 says Within (NewSGroup 6 3)
-    ∷ 0 says Within (NewSGroup 5 1)
-    ∷ 0 says Within (RegisterName 5 70 67108865)
-    ∷ 0 says Within (RegisterName 5 70 1)
-    ∷ 1 says Within (RegisterName 5 71 67108865)
-    ∷ 1 says Within (ReRegisterName 5 70 67108865)
-    ∷ 1 says Within (UnregisterName 5 99)
-    ∷ 2 says Within (WhereisName 5 70)
+    0 says NewSGroup 5 3
+    ∷ 2 says NewSGroup 6 3
+    ∷ 0 says NewSGroup 5 1
+    ∷ 0 says RegisterName 5 70 67108865
+    ∷ 0 says RegisterName 5 70 1
+    ∷ 1 says RegisterName 5 71 67108865
+    ∷ 1 says ReRegisterName 5 70 67108865
+    ∷ 1 says UnregisterName 5 99
+    ∷ 2 says WhereisName 5 70
     ∷ 2 says WhereisNameAt 0 5 70
     ∷ 2 says WhereisNameAt 3 9 70
     ∷ 1 says DeleteSGroup 5

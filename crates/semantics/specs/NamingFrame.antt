@@ -14,9 +14,7 @@ use Rattle.entries.specs.Entries.{Entry, lookup, holds-pid, host}
 use Rattle.semantics.specs.Sizes.{group-names, names-per-group, contents-at, table-words}
 use Rattle.semantics.specs.State.{Group, State, find, with-groups}
 use Rattle.commands.specs.declared.Command.{Command}
-use Rattle.commands.specs.declared.Command.the-variants.{Within}
-use Rattle.commands.specs.declared.GroupCommand.{GroupCommand}
-use Rattle.commands.specs.declared.GroupCommand.the-variants.{RegisterName, ReRegisterName, UnregisterName, WhereisName, RegisteredNames, AddNodes, NewSGroup}
+use Rattle.semantics.specs.GroupCommands.{GroupCommand, register-name, re-register-name, unregister-name, whereis-name, registered-names, add-nodes, new-s-group, within}
 use Rattle.semantics.specs.Ranges.{held, bad-group}
 use Rattle.semantics.specs.Steps.{target, Effect, keep, hold, Outcome, as-member, full, inside, outcome, apply, group-step, Result, step}
 use Rattle.semantics.specs.Table.{layout, state-of}
@@ -39,13 +37,13 @@ use Rattle.semantics.specs.Frame.{renamed, frame-other, frame-name}
 
 -- the command changes a namespace
 abbrev pub Naming : GroupCommand → Type 0
-Naming (RegisterName s n p) = Unit {0}
-Naming (ReRegisterName s n p) = Unit {0}
-Naming (UnregisterName s n) = Unit {0}
-Naming (WhereisName s n) = ⊥
-Naming (RegisteredNames s) = ⊥
-Naming (AddNodes s set) = ⊥
-Naming (NewSGroup s set) = ⊥
+Naming (register-name s n p) = Unit {0}
+Naming (re-register-name s n p) = Unit {0}
+Naming (unregister-name s n) = Unit {0}
+Naming (whereis-name s n) = ⊥
+Naming (registered-names s) = ⊥
+Naming (add-nodes s set) = ⊥
+Naming (new-s-group s set) = ⊥
 
 -- ---- what becomes of the s_group: nothing, or other names
 
@@ -64,18 +62,18 @@ for-member (some g) i v k h = either (has (g .members) i) _ _ (h g refl) kept
 
 inside-renames : (room N G i : ℕ) (c : GroupCommand) → Naming c → (o : Option Group) → Renames o (inside room N G i c o .effect)
 unfolding inside
-inside-renames room N G i (RegisterName s n p) u o =
+inside-renames room N G i (register-name s n p) u o =
     either (eqb n 0) _ _ kept (either (leb N (host p)) _ _ kept (for-member o i False _ (λ g e.
     either (held (lookup n (g .names))) _ _ kept (either (holds-pid p (g .names)) _ _ kept (either (full (g .names)) _ _ kept (changed g _ e))))))
-inside-renames room N G i (ReRegisterName s n p) u o =
+inside-renames room N G i (re-register-name s n p) u o =
     either (eqb n 0) _ _ kept (either (leb N (host p)) _ _ kept (for-member o i False _ (λ g e.
     either (holds-pid p (g .names)) _ _ kept (either (not (held (lookup n (g .names))) && full (g .names)) _ _ kept (changed g _ e)))))
-inside-renames room N G i (UnregisterName s n) u o =
+inside-renames room N G i (unregister-name s n) u o =
     either (eqb n 0) _ _ kept (for-member o i False _ (λ g e. either (held (lookup n (g .names))) _ _ (changed g _ e) kept))
-inside-renames room N G i (WhereisName s n) u o = absurd u
-inside-renames room N G i (RegisteredNames s) u o = absurd u
-inside-renames room N G i (AddNodes s set) u o = absurd u
-inside-renames room N G i (NewSGroup s set) u o = absurd u
+inside-renames room N G i (whereis-name s n) u o = absurd u
+inside-renames room N G i (registered-names s) u o = absurd u
+inside-renames room N G i (add-nodes s set) u o = absurd u
+inside-renames room N G i (new-s-group s set) u o = absurd u
 
 outcome-renames : (room N G i : ℕ) (c : GroupCommand) → Naming c → (o : Option Group) → Renames o (outcome room N G i c o .effect)
 unfolding outcome
@@ -96,7 +94,7 @@ apply-renames s st e r (changed g ns f) =
     subst (λ (gs : List Group). After s st (with-groups gs st)) (sym (w .putting (g .members) ns))
     (other-names (w .before) g (w .after) ns (w .is) (found-name s (st .groups) g f))
 
-step-renames : (room i : ℕ) (c : GroupCommand) → Naming c → (st : State) → Rising 0 (st .groups) → After (target c) st (step room i (Within c) st .next)
+step-renames : (room i : ℕ) (c : GroupCommand) → Naming c → (st : State) → Rising 0 (st .groups) → After (target c) st (step room i (within c) st .next)
 unfolding group-step
 step-renames room i c u st r =
     subst (λ (x : Result). After (target c) st (x .next)) (sym (step-within room i c st))
@@ -159,19 +157,19 @@ module _ (room i : ℕ) (c : GroupCommand) (u : Naming c) (t : List ℕ) where
     means : Means names-per-group (state-of names-per-group t) t
     means = regular-means regular (reads (test-laid names-per-group t h))
 
-    after : After (target c) (state-of names-per-group t) (step room i (Within c) (state-of names-per-group t) .next)
+    after : After (target c) (state-of names-per-group t) (step room i (within c) (state-of names-per-group t) .next)
     after = step-renames room i c u (state-of names-per-group t) (regular .rising)
 
   -- a word outside those of the s_group that it names stays
   pub naming-outside : (k : ℕ) → ((g : ℕ) → g < count-of t → name-of t g ≡ target c → Outside names-per-group k g)
-      → getD (call room i (Within c) t .table) k 0 ≡ getD t k 0
-  naming-outside k o = called room i (Within c) t (λ x. getD x k 0 ≡ getD t k 0) refl (λ h.
+      → getD (call room i (within c) t .table) k 0 ≡ getD t k 0
+  naming-outside k o = called room i (within c) t (λ x. getD x k 0 ≡ getD t k 0) refl (λ h.
       after-outside names-per-group (target c) (state-of names-per-group t) (regular h) (after h) k
       (λ g l e. let n : g < count-of t = in-words (means h) g l in o g n (means h .name g n ∙ e))
       ∙ ap (λ (x : List ℕ). getD x k 0) (is-table h))
 
   -- and so does every s_group's name: in a contents word only the count changes
-  pub naming-names : (g : ℕ) → g < count-of t → name-of (call room i (Within c) t .table) g ≡ name-of t g
-  naming-names g l = called room i (Within c) t (λ x. name-of x g ≡ name-of t g) refl (λ h.
+  pub naming-names : (g : ℕ) → g < count-of t → name-of (call room i (within c) t .table) g ≡ name-of t g
+  naming-names g l = called room i (within c) t (λ x. name-of x g ≡ name-of t g) refl (λ h.
       after-names names-per-group (target c) (state-of names-per-group t) (regular h) (after h) g (in-state (means h) g l)
       ∙ ap (λ (x : List ℕ). name-of x g) (is-table h))

@@ -15,8 +15,7 @@ use Rattle.entries.specs.Entries.{lookup}
 use Rattle.answers.specs.Answers.{number}
 use Rattle.semantics.specs.Sizes.{names-per-group, links-at, free-at}
 use Rattle.semantics.specs.State.{Group, State, with-groups, free-of, find}
-use Rattle.commands.specs.declared.Command.the-variants.{Within, WhereisNameAt, DeleteSGroup}
-use Rattle.commands.specs.declared.GroupCommand.the-variants.{NewSGroup, WhereisName}
+use Rattle.commands.specs.declared.Command.the-variants.{WhereisName, WhereisNameAt, NewSGroup, DeleteSGroup}
 use Rattle.answers.specs.Answers.{answer-of}
 use Rattle.semantics.specs.Ranges.{held}
 use Rattle.semantics.specs.Steps.{Looked, looked, nothing-found, ask, tell, merge, lot, connect}
@@ -68,7 +67,7 @@ abbrev pub three : List ℕ
 three = table-of 3 0 [] (6 ∷ 5 ∷ 3 ∷ []) (7 ∷ 7 ∷ 7 ∷ [])
 
 -- 0 and 1 leave {0, 1, 2} for an s_group: {2} is left, and not {1, 2} and {0, 2}
-pub leaving-together : Told-apart (free-groups (call 0 0 (Within (NewSGroup 5 3)) three .table)) (one-by-one 3 (free-groups three)) (4 ∷ []) (6 ∷ 5 ∷ [])
+pub leaving-together : Told-apart (free-groups (call 0 0 (NewSGroup 5 3) three .table)) (one-by-one 3 (free-groups three)) (4 ∷ []) (6 ∷ 5 ∷ [])
 unfolding computing upto trailingZeros
 leaving-together = record { ours-is = refl; wrong-is = refl; differ = λ e. let z : _≡_ {A = ℕ} 0 1 = cc in omega arith }
 
@@ -152,7 +151,7 @@ name-first i n (some g) =
 
 -- the answers of whereis_name/2 in the s_group 5 to node 2, for each of the names, on the table after M10: ours, and the wrong reading's
 abbrev pub ours-to-outsider : List ℕ → List Answer
-ours-to-outsider ns = map (λ n. call 0 2 (Within (WhereisName 5 n)) after-m10 .answer) ns
+ours-to-outsider ns = map (λ n. call 0 2 (WhereisName 5 n) after-m10 .answer) ns
 
 abbrev pub wrong-to-outsider : List ℕ → List Answer
 wrong-to-outsider ns = map (λ n. tell (name-first 2 n (find 5 (state after-m10 .groups))) (state after-m10) .answer) ns

@@ -15,9 +15,8 @@ use Rattle.answers.specs.Answers.{number}
 use Rattle.semantics.specs.Sizes.{group-limit, group-names, names-per-group, table-words}
 use Rattle.semantics.specs.State.{Group, State, find}
 use Rattle.commands.specs.declared.Command.{Command}
-use Rattle.commands.specs.declared.Command.the-variants.{Within, WhereisNameAt, Send, SendName, SendAt, RemoveNodes, DeleteSGroup, OwnNodes, OwnSGroups}
-use Rattle.commands.specs.declared.GroupCommand.{GroupCommand}
-use Rattle.commands.specs.declared.GroupCommand.the-variants.{RegisterName, ReRegisterName, UnregisterName, RegisteredNames, WhereisName, NewSGroup, AddNodes}
+use Rattle.commands.specs.declared.Command.the-variants.{RegisterName, ReRegisterName, UnregisterName, RegisteredNames, WhereisName, WhereisNameAt, Send, SendName, SendAt, NewSGroup, AddNodes, RemoveNodes, DeleteSGroup, OwnNodes, OwnSGroups}
+use Rattle.semantics.specs.GroupCommands.{GroupCommand, register-name, re-register-name, unregister-name, whereis-name, registered-names, add-nodes, new-s-group}
 use Rattle.semantics.specs.Ranges.{bad-group, held}
 use Rattle.semantics.specs.Steps.{Outcome, Effect, keep, Result, Looked, as-member, for-member, full, name-words, looked, look-in, ask, send-on, asking, connect, inside, outcome, apply, target, group-step, rule, step}
 use Rattle.semantics.specs.Table.{layout, state-of}
@@ -44,18 +43,18 @@ q-member i v (some g) k f = q-if (has (g .members) i) _ _ (f g) (λ n. refl)
 
 inside-quiet : (room N G i : ℕ) (c : GroupCommand) (o : Option Group) → quiet (inside room N G i c o)
 unfolding inside
-inside-quiet room N G i (RegisterName s n p) o =
+inside-quiet room N G i (register-name s n p) o =
     q-if (eqb n 0) _ _ (λ x. refl) (q-if (leb N (host p)) _ _ (λ x. refl) (q-member i _ o _ (λ g.
     q-if (held (lookup n (g .names))) _ _ (λ x. refl) (q-if (holds-pid p (g .names)) _ _ (λ x. refl) (q-if (full (g .names)) _ _ (λ x. refl) (λ x. absurd (x refl)))))))
-inside-quiet room N G i (ReRegisterName s n p) o =
+inside-quiet room N G i (re-register-name s n p) o =
     q-if (eqb n 0) _ _ (λ x. refl) (q-if (leb N (host p)) _ _ (λ x. refl) (q-member i _ o _ (λ g.
     q-if (holds-pid p (g .names)) _ _ (λ x. refl) (q-if (not (held (lookup n (g .names))) && full (g .names)) _ _ (λ x. refl) (λ x. absurd (x refl))))))
-inside-quiet room N G i (UnregisterName s n) o =
+inside-quiet room N G i (unregister-name s n) o =
     q-if (eqb n 0) _ _ (λ x. refl) (q-member i _ o _ (λ g. q-if (held (lookup n (g .names))) _ _ (λ x. absurd (x refl)) (λ x. refl)))
-inside-quiet room N G i (WhereisName s n) o = q-if (eqb n 0) _ _ (λ x. refl) (q-member i _ o _ (λ g x. refl))
-inside-quiet room N G i (RegisteredNames s) o = q-member i _ o _ (λ g. q-if (ltb room (length (name-words s (g .names)))) _ _ (λ x. refl) (λ x. refl))
-inside-quiet room N G i (AddNodes s set) o = q-if (beyond set N) _ _ (λ x. refl) (q-member i _ o _ (λ g x. absurd (x refl)))
-inside-quiet room N G i (NewSGroup s set) o =
+inside-quiet room N G i (whereis-name s n) o = q-if (eqb n 0) _ _ (λ x. refl) (q-member i _ o _ (λ g x. refl))
+inside-quiet room N G i (registered-names s) o = q-member i _ o _ (λ g. q-if (ltb room (length (name-words s (g .names)))) _ _ (λ x. refl) (λ x. refl))
+inside-quiet room N G i (add-nodes s set) o = q-if (beyond set N) _ _ (λ x. refl) (q-member i _ o _ (λ g x. absurd (x refl)))
+inside-quiet room N G i (new-s-group s set) o =
     q-if (beyond set N) _ _ (λ x. refl) (q-if (not (has set i)) _ _ (λ x. refl) (q-if (held o) _ _ (λ x. refl) (q-if (leb group-limit G) _ _ (λ x. refl) (λ x. absurd (x refl)))))
 
 -- ---- commands that ask no other node
@@ -98,7 +97,13 @@ m-still i (some g) st k f = s-if st (has (g .members) i) _ _ (f g) (λ x. refl)
 
 -- whether it is a lookup or send by another node
 abbrev pub remote : Command → Bool
-remote (Within c) = false
+remote (RegisterName s n p) = false
+remote (ReRegisterName s n p) = false
+remote (UnregisterName s n) = false
+remote (RegisteredNames s) = false
+remote (WhereisName s n) = false
+remote (NewSGroup s set) = false
+remote (AddNodes s set) = false
 remote (WhereisNameAt j s n) = true
 remote (SendAt j s n) = true
 remote (Send p) = false
@@ -113,7 +118,13 @@ no e = let z : _≡_ {A = ℕ} 0 1 = cc in omega arith
 
 rule-still : (room i : ℕ) (c : Command) (st : State) → remote c ≡ false → still st (rule room i c st)
 unfolding rule
-rule-still room i (Within c) st e = group-still room i c st
+rule-still room i (RegisterName s n p) st e = group-still room i (register-name s n p) st
+rule-still room i (ReRegisterName s n p) st e = group-still room i (re-register-name s n p) st
+rule-still room i (UnregisterName s n) st e = group-still room i (unregister-name s n) st
+rule-still room i (RegisteredNames s) st e = group-still room i (registered-names s) st
+rule-still room i (WhereisName s n) st e = group-still room i (whereis-name s n) st
+rule-still room i (NewSGroup s set) st e = group-still room i (new-s-group s set) st
+rule-still room i (AddNodes s set) st e = group-still room i (add-nodes s set) st
 rule-still room i (WhereisNameAt j s n) st e = absurd (no e)
 rule-still room i (SendAt j s n) st e = absurd (no e)
 rule-still room i (Send p) st e = s-if st (leb (st .size) (host p)) _ _ (λ x. refl) (λ x. absurd (x refl))

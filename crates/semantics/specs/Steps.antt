@@ -9,9 +9,8 @@ use lib.ListN.{length, replicate}
 use Rattle.nodes.specs.Sets.{node-limit, has, empty, single, union, inter, diff, beyond, count, union-all}
 use Rattle.entries.specs.Entries.{Entry, half-word, host, insert, remove, lookup, holds-pid}
 use Rattle.commands.specs.declared.Command.{Command}
-use Rattle.commands.specs.declared.Command.the-variants.{Within, WhereisNameAt, SendAt, Send, SendName, RemoveNodes, DeleteSGroup, OwnNodes, OwnSGroups}
-use Rattle.commands.specs.declared.GroupCommand.{GroupCommand}
-use Rattle.commands.specs.declared.GroupCommand.the-variants.{RegisterName, ReRegisterName, UnregisterName, WhereisName, RegisteredNames, AddNodes, NewSGroup}
+use Rattle.commands.specs.declared.Command.the-variants.{RegisterName, ReRegisterName, UnregisterName, RegisteredNames, WhereisName, WhereisNameAt, Send, SendName, SendAt, NewSGroup, AddNodes, RemoveNodes, DeleteSGroup, OwnNodes, OwnSGroups}
+use Rattle.semantics.specs.GroupCommands.{GroupCommand, register-name, re-register-name, unregister-name, whereis-name, registered-names, add-nodes, new-s-group}
 use Rattle.answers.specs.Answers.{answer-of}
 use Rattle.semantics.specs.Ranges.{bad-group, held}
 use Rattle.semantics.specs.Sizes.{group-limit, names-per-group, group-names}
@@ -106,23 +105,23 @@ error r st = reply Error r st
 
 -- the s_group that it names
 abbrev pub target : GroupCommand → ℕ
-target (RegisterName s n p) = s
-target (ReRegisterName s n p) = s
-target (UnregisterName s n) = s
-target (WhereisName s n) = s
-target (RegisteredNames s) = s
-target (AddNodes s set) = s
-target (NewSGroup s set) = s
+target (register-name s n p) = s
+target (re-register-name s n p) = s
+target (unregister-name s n) = s
+target (whereis-name s n) = s
+target (registered-names s) = s
+target (add-nodes s set) = s
+target (new-s-group s set) = s
 
 -- whether it is new_s_group
 abbrev pub creates : GroupCommand → Bool
-creates (RegisterName s n p) = false
-creates (ReRegisterName s n p) = false
-creates (UnregisterName s n) = false
-creates (WhereisName s n) = false
-creates (RegisteredNames s) = false
-creates (AddNodes s set) = false
-creates (NewSGroup s set) = true
+creates (register-name s n p) = false
+creates (re-register-name s n p) = false
+creates (unregister-name s n) = false
+creates (whereis-name s n) = false
+creates (registered-names s) = false
+creates (add-nodes s set) = false
+creates (new-s-group s set) = true
 
 -- what becomes of the s_group: nothing; these members and names; a set joins, so that all members meet and the set leaves the free
 -- groups; it is made of a set
@@ -177,7 +176,7 @@ name-words s ns = map (λ e. s * half-word + e .name) ns
 
 -- from reason 6 on: room is that of the lent run, N the roster size, G the number of s_groups, i the caller, found the s_group
 unfoldable pub inside : ℕ → ℕ → ℕ → ℕ → GroupCommand → Option Group → Outcome
-inside room N G i (RegisterName s n p) found =
+inside room N G i (register-name s n p) found =
     cond (eqb n 0) (say Error NameZero)
     (cond (leb N (host p)) (say Error NodeUnknown)
     (as-member i False found (λ g.
@@ -185,28 +184,28 @@ inside room N G i (RegisterName s n p) found =
     (cond (holds-pid p (g .names)) (say False PidTaken)
     (cond (full (g .names)) (say False NamespaceFull)
     (done (hold (g .members) (insert (record { name = n; pid = p }) (g .names))) True))))))
-inside room N G i (ReRegisterName s n p) found =
+inside room N G i (re-register-name s n p) found =
     cond (eqb n 0) (say Error NameZero)
     (cond (leb N (host p)) (say Error NodeUnknown)
     (as-member i False found (λ g.
     cond (holds-pid p (g .names)) (say False PidTaken)
     (cond (not (held (lookup n (g .names))) && full (g .names)) (say False NamespaceFull)
     (done (hold (g .members) (insert (record { name = n; pid = p }) (remove n (g .names)))) True)))))
-inside room N G i (UnregisterName s n) found =
+inside room N G i (unregister-name s n) found =
     cond (eqb n 0) (say Error NameZero)
     (as-member i False found (λ g.
     cond (held (lookup n (g .names)))
     (done (hold (g .members) (remove n (g .names))) True)
     (say True NotRegistered)))
-inside room N G i (WhereisName s n) found =
+inside room N G i (whereis-name s n) found =
     cond (eqb n 0) (say Error NameZero)
     (as-member i Undefined found (λ g. say (pid-or-undefined (lookup n (g .names))) (look-reason (lookup n (g .names)))))
-inside room N G i (RegisteredNames s) found =
+inside room N G i (registered-names s) found =
     as-member i (Listed 0) found (λ g. listed room (name-words s (g .names)))
-inside room N G i (AddNodes s set) found =
+inside room N G i (add-nodes s set) found =
     cond (beyond set N) (say Error NodeUnknown)
     (as-member i Error found (λ g. done (join set (union (g .members) set) (g .names)) (Grouped s set)))
-inside room N G i (NewSGroup s set) found =
+inside room N G i (new-s-group s set) found =
     cond (beyond set N) (say Error NodeUnknown)
     (cond (not (has set i)) (say Error CallerOutside)
     (cond (held found) (say Error GroupTaken)
@@ -305,7 +304,13 @@ told o st = record { answer = o .answer; list = o .list; next = st }
 
 -- from reason 5 on
 unfoldable pub rule : ℕ → ℕ → Command → State → Result
-rule room i (Within c) st = group-step room i c st
+rule room i (RegisterName s n p) st = group-step room i (register-name s n p) st
+rule room i (ReRegisterName s n p) st = group-step room i (re-register-name s n p) st
+rule room i (UnregisterName s n) st = group-step room i (unregister-name s n) st
+rule room i (RegisteredNames s) st = group-step room i (registered-names s) st
+rule room i (WhereisName s n) st = group-step room i (whereis-name s n) st
+rule room i (NewSGroup s set) st = group-step room i (new-s-group s set) st
+rule room i (AddNodes s set) st = group-step room i (add-nodes s set) st
 rule room i (WhereisNameAt j s n) st = asking j s n st (tell (ask j s n st) (connect i j st))
 rule room i (SendAt j s n) st = asking j s n st (tell (ask j s n st) (send-on i (ask j s n st .found) (connect i j st)))
 rule room i (Send p) st =

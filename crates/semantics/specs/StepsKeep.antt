@@ -16,9 +16,8 @@ use Rattle.entries.specs.NamespaceKept.{sound-remove}
 use Rattle.semantics.specs.Sizes.{group-limit, names-per-group, group-names}
 use Rattle.semantics.specs.State.{Group, State, find}
 use Rattle.commands.specs.declared.Command.{Command}
-use Rattle.commands.specs.declared.Command.the-variants.{Within, WhereisNameAt, SendAt, Send, SendName, RemoveNodes, DeleteSGroup, OwnNodes, OwnSGroups}
-use Rattle.commands.specs.declared.GroupCommand.{GroupCommand}
-use Rattle.commands.specs.declared.GroupCommand.the-variants.{RegisterName, ReRegisterName, UnregisterName, WhereisName, RegisteredNames, AddNodes, NewSGroup}
+use Rattle.commands.specs.declared.Command.the-variants.{RegisterName, ReRegisterName, UnregisterName, RegisteredNames, WhereisName, WhereisNameAt, Send, SendName, SendAt, NewSGroup, AddNodes, RemoveNodes, DeleteSGroup, OwnNodes, OwnSGroups}
+use Rattle.semantics.specs.GroupCommands.{GroupCommand, register-name, re-register-name, unregister-name, whereis-name, registered-names, add-nodes, new-s-group, within}
 use Rattle.semantics.specs.Ranges.{held, bad-group}
 use Rattle.semantics.specs.Steps.{Outcome, Result, target, as-member, full, name-words, inside, outcome, apply, group-step, looked, nothing-found, look-in, ask, send-on, for-member, rule, step}
 use Rattle.answers.specs.declared.Value.{Value}
@@ -62,10 +61,10 @@ module _ {st : State} (w : Regular names-per-group st) (s i : ℕ) where
 inhabited : (set i : ℕ) → not (has set i) ≡ false → set ≢ 0
 inhabited set i h e = false≢true (sym (has-none i) ∙ ap (λ (m : ℕ). has m i) (sym e) ∙ not-false (has set i) h)
 
-kept-inside : (room i : ℕ) (c : GroupCommand) {st : State} → Regular names-per-group st → Fits (Within c) → bad-group (target c) ≡ false
+kept-inside : (room i : ℕ) (c : GroupCommand) {st : State} → Regular names-per-group st → Fits (within c) → bad-group (target c) ≡ false
     → Kept (after (target c) st) (inside room (st .size) (length (st .groups)) i c (find (target c) (st .groups)))
 unfolding inside apply
-kept-inside room i (RegisterName s n p) {st} w b ok =
+kept-inside room i (register-name s n p) {st} w b ok =
     by-case (eqb n 0) (λ x. record { regular = w }) λ x.
     by-case (leb (st .size) (host p)) (λ y. record { regular = w }) λ y.
     by-member w s i _ (find s (st .groups)) _ λ g f.
@@ -76,7 +75,7 @@ kept-inside room i (RegisterName s n p) {st} w b ok =
       regular = regular-hold w s g f _
           (sound-register names-per-group (st .size) n p (g .names) (names-sound w s i g f) (positive x) (b .1) (b .2) (leb-false (st .size) (host p) y) u z v);
     }
-kept-inside room i (ReRegisterName s n p) {st} w b ok =
+kept-inside room i (re-register-name s n p) {st} w b ok =
     by-case (eqb n 0) (λ x. record { regular = w }) λ x.
     by-case (leb (st .size) (host p)) (λ y. record { regular = w }) λ y.
     by-member w s i _ (find s (st .groups)) _ λ g f.
@@ -86,22 +85,22 @@ kept-inside room i (ReRegisterName s n p) {st} w b ok =
       regular = regular-hold w s g f _
           (sound-re-register names-per-group (st .size) n p (g .names) (names-sound w s i g f) (positive x) (b .1) (b .2) (leb-false (st .size) (host p) y) u v);
     }
-kept-inside room i (UnregisterName s n) {st} w b ok =
+kept-inside room i (unregister-name s n) {st} w b ok =
     by-case (eqb n 0) (λ x. record { regular = w }) λ x.
     by-member w s i _ (find s (st .groups)) _ λ g f.
     by-case (held (lookup n (g .names)))
     (λ z. record { regular = regular-hold w s g f _ (sound-remove names-per-group (st .size) n (g .names) (names-sound w s i g f)) })
     (λ z. record { regular = w })
-kept-inside room i (WhereisName s n) {st} w b ok =
+kept-inside room i (whereis-name s n) {st} w b ok =
     by-case (eqb n 0) (λ x. record { regular = w }) λ x.
     by-member w s i _ (find s (st .groups)) _ λ g f. record { regular = w }
-kept-inside room i (RegisteredNames s) {st} w b ok =
+kept-inside room i (registered-names s) {st} w b ok =
     by-member w s i _ (find s (st .groups)) _ λ g f.
     by-case (ltb room (length (name-words s (g .names)))) (λ x. record { regular = w }) (λ x. record { regular = w })
-kept-inside room i (AddNodes s set) {st} w b ok =
+kept-inside room i (add-nodes s set) {st} w b ok =
     by-case (beyond set (st .size)) (λ x. record { regular = w }) λ x.
     by-member w s i _ (find s (st .groups)) _ λ g f. record { regular = regular-join w s g f set (leb-false (2 ^ (st .size)) set x) }
-kept-inside room i (NewSGroup s set) {st} w b ok =
+kept-inside room i (new-s-group s set) {st} w b ok =
     by-case (beyond set (st .size)) (λ x. record { regular = w }) λ x.
     by-case (not (has set i)) (λ y. record { regular = w }) λ y.
     by-case (held (find s (st .groups))) (λ z. record { regular = w }) λ z.
@@ -112,7 +111,7 @@ kept-inside room i (NewSGroup s set) {st} w b ok =
           (leb-false group-limit (length (st .groups)) u) set (leb-false (2 ^ (st .size)) set x) (inhabited set i y);
     }
 
-pub keeps-within : (room i : ℕ) (c : GroupCommand) (st : State) → Regular names-per-group st → Fits (Within c) → Regular names-per-group (group-step room i c st .next)
+pub keeps-within : (room i : ℕ) (c : GroupCommand) (st : State) → Regular names-per-group st → Fits (within c) → Regular names-per-group (group-step room i c st .next)
 unfolding group-step outcome apply
 keeps-within room i c st w b = whole .regular
   where
@@ -150,7 +149,13 @@ module _ {st : State} (w : Regular names-per-group st) where
 
 kept-rule : (room i : ℕ) (c : Command) {st : State} → Regular names-per-group st → Fits c → i < st .size → Kept next-of (rule room i c st)
 unfolding rule
-kept-rule room i (Within c) {st} w b h = record { regular = keeps-within room i c st w b }
+kept-rule room i (RegisterName s n p) {st} w b h = record { regular = keeps-within room i (register-name s n p) st w b }
+kept-rule room i (ReRegisterName s n p) {st} w b h = record { regular = keeps-within room i (re-register-name s n p) st w b }
+kept-rule room i (UnregisterName s n) {st} w b h = record { regular = keeps-within room i (unregister-name s n) st w b }
+kept-rule room i (RegisteredNames s) {st} w b h = record { regular = keeps-within room i (registered-names s) st w b }
+kept-rule room i (WhereisName s n) {st} w b h = record { regular = keeps-within room i (whereis-name s n) st w b }
+kept-rule room i (NewSGroup s set) {st} w b h = record { regular = keeps-within room i (new-s-group s set) st w b }
+kept-rule room i (AddNodes s set) {st} w b h = record { regular = keeps-within room i (add-nodes s set) st w b }
 kept-rule room i (WhereisNameAt j s n) {st} w b h =
     by-case (leb group-names s) (λ x. record { regular = w }) λ x.
     by-case (eqb n 0) (λ x. record { regular = w }) λ x.

@@ -12,8 +12,7 @@ use borrow.Author.Tests.{lt-leb}
 use Rattle.nodes.specs.Sets.{has}
 use Rattle.semantics.specs.Sizes.{group-limit}
 use Rattle.semantics.specs.State.{Group, State, find}
-use Rattle.commands.specs.declared.GroupCommand.{GroupCommand}
-use Rattle.commands.specs.declared.GroupCommand.the-variants.{RegisterName, ReRegisterName, UnregisterName, WhereisName, RegisteredNames, AddNodes, NewSGroup}
+use Rattle.semantics.specs.GroupCommands.{GroupCommand, register-name, re-register-name, unregister-name, whereis-name, registered-names, add-nodes, new-s-group}
 use Rattle.semantics.specs.Ranges.{bad-group}
 use Rattle.semantics.specs.Steps.{Result, Effect, Outcome, target, creates, say, as-member, inside, outcome, apply, settle, group-step}
 use Rattle.semantics.specs.Effects.{apply-comm, find-apply-other, size-apply, made, made-one, length-apply}
@@ -27,13 +26,13 @@ use Rattle.answers.specs.declared.Reason.the-variants.{NotMember}
 -- the number of s_groups is felt by new_s_group alone
 outcome-any : (room N G H i : ℕ) (c : GroupCommand) (f : Option Group) → creates c ≡ false → outcome room N G i c f ≡ outcome room N H i c f
 unfolding outcome inside
-outcome-any room N G H i (RegisterName s n p) f e = refl
-outcome-any room N G H i (ReRegisterName s n p) f e = refl
-outcome-any room N G H i (UnregisterName s n) f e = refl
-outcome-any room N G H i (WhereisName s n) f e = refl
-outcome-any room N G H i (RegisteredNames s) f e = refl
-outcome-any room N G H i (AddNodes s set) f e = refl
-outcome-any room N G H i (NewSGroup s set) f e = absurd (true≢false e)
+outcome-any room N G H i (register-name s n p) f e = refl
+outcome-any room N G H i (re-register-name s n p) f e = refl
+outcome-any room N G H i (unregister-name s n) f e = refl
+outcome-any room N G H i (whereis-name s n) f e = refl
+outcome-any room N G H i (registered-names s) f e = refl
+outcome-any room N G H i (add-nodes s set) f e = refl
+outcome-any room N G H i (new-s-group s set) f e = absurd (true≢false e)
 
 -- what an outcome says
 abbrev said-in : Outcome → Said
@@ -67,13 +66,13 @@ unbounded l st = settle (key l) (seen l st) st
 
 outcome-roomy : (room N G i : ℕ) (c : GroupCommand) (f : Option Group) → (creates c ≡ true → G < group-limit) → outcome room N G i c f ≡ outcome room N 0 i c f
 unfolding outcome inside
-outcome-roomy room N G i (RegisterName s n p) f h = refl
-outcome-roomy room N G i (ReRegisterName s n p) f h = refl
-outcome-roomy room N G i (UnregisterName s n) f h = refl
-outcome-roomy room N G i (WhereisName s n) f h = refl
-outcome-roomy room N G i (RegisteredNames s) f h = refl
-outcome-roomy room N G i (AddNodes s set) f h = refl
-outcome-roomy room N G i (NewSGroup s set) f h = rw (lt-leb group-limit G (h refl))
+outcome-roomy room N G i (register-name s n p) f h = refl
+outcome-roomy room N G i (re-register-name s n p) f h = refl
+outcome-roomy room N G i (unregister-name s n) f h = refl
+outcome-roomy room N G i (whereis-name s n) f h = refl
+outcome-roomy room N G i (registered-names s) f h = refl
+outcome-roomy room N G i (add-nodes s set) f h = refl
+outcome-roomy room N G i (new-s-group s set) f h = rw (lt-leb group-limit G (h refl))
 
 -- where there is room for what a line makes, its step is the unbounded one
 pub step-unbounded : (l : Line) (st : State) → Room-for (cost l) st → step-of l st ≡ unbounded l st
@@ -103,13 +102,13 @@ member i v (some g) k h = either (has (g .members) i) (k g) (say v NotMember) (h
 
 inside-none : (room N G i : ℕ) (c : GroupCommand) (f : Option Group) → creates c ≡ false → Makes-none (inside room N G i c f)
 unfolding inside
-inside-none room N G i (RegisterName s n p) f e = search (either, member) depth 9
-inside-none room N G i (ReRegisterName s n p) f e = search (either, member) depth 9
-inside-none room N G i (UnregisterName s n) f e = search (either, member) depth 9
-inside-none room N G i (WhereisName s n) f e = search (either, member) depth 9
-inside-none room N G i (RegisteredNames s) f e = search (either, member) depth 9
-inside-none room N G i (AddNodes s set) f e = search (either, member) depth 9
-inside-none room N G i (NewSGroup s set) f e = absurd (true≢false e)
+inside-none room N G i (register-name s n p) f e = search (either, member) depth 9
+inside-none room N G i (re-register-name s n p) f e = search (either, member) depth 9
+inside-none room N G i (unregister-name s n) f e = search (either, member) depth 9
+inside-none room N G i (whereis-name s n) f e = search (either, member) depth 9
+inside-none room N G i (registered-names s) f e = search (either, member) depth 9
+inside-none room N G i (add-nodes s set) f e = search (either, member) depth 9
+inside-none room N G i (new-s-group s set) f e = absurd (true≢false e)
 
 outcome-none : (room N G i : ℕ) (c : GroupCommand) (f : Option Group) → creates c ≡ false → Makes-none (outcome room N G i c f)
 unfolding outcome

@@ -5,8 +5,7 @@ use answers::Value;
 use layout::TABLE_WORDS;
 ghost use mathlib.Core.Path.{_≡_};
 ghost use lib.ListN.{length};
-ghost use Rattle.commands.specs.declared.Command.the-variants.{Within, WhereisNameAt, Send, SendName, SendAt, RemoveNodes, DeleteSGroup, OwnNodes, OwnSGroups};
-ghost use Rattle.commands.specs.declared.GroupCommand.the-variants.{RegisterName, ReRegisterName, UnregisterName, RegisteredNames, WhereisName, NewSGroup, AddNodes};
+ghost use Rattle.commands.specs.declared.Command.the-variants.{RegisterName, ReRegisterName, UnregisterName, RegisteredNames, WhereisName, WhereisNameAt, Send, SendName, SendAt, NewSGroup, AddNodes, RemoveNodes, DeleteSGroup, OwnNodes, OwnSGroups};
 ghost use Rattle.answers.specs.Answers.{answer-of};
 ghost use Rattle.semantics.specs.Call.{call, listed-over};
 ghost use Rattle.semantics.specs.Calls.{why};
@@ -30,8 +29,8 @@ fn unfit(table: &[u64]) -> Answer
 
 // Registers the pid under the name in the s_group.
 pub fn register_name(table: &mut [u64], caller: u32, s: u32, n: u32, p: u32) -> Answer
-    ensures { λ r. ⌜ r ≡ call 0 caller (Within (RegisterName s n p)) (now (table .entry)) .answer ⌝ }
-    ensures { λ _. ⌜ now (table .exit) ≡ call 0 caller (Within (RegisterName s n p)) (now (table .entry)) .table ⌝ }
+    ensures { λ r. ⌜ r ≡ call 0 caller (RegisterName s n p) (now (table .entry)) .answer ⌝ }
+    ensures { λ _. ⌜ now (table .exit) ≡ call 0 caller (RegisterName s n p) (now (table .entry)) .table ⌝ }
 {
     if table::is_sound(table) {
         return naming::register_name(table, caller, s, n, p);
@@ -41,8 +40,8 @@ pub fn register_name(table: &mut [u64], caller: u32, s: u32, n: u32, p: u32) -> 
 
 // Registers the pid under the name in the s_group, in place of the one that the name had.
 pub fn re_register_name(table: &mut [u64], caller: u32, s: u32, n: u32, p: u32) -> Answer
-    ensures { λ r. ⌜ r ≡ call 0 caller (Within (ReRegisterName s n p)) (now (table .entry)) .answer ⌝ }
-    ensures { λ _. ⌜ now (table .exit) ≡ call 0 caller (Within (ReRegisterName s n p)) (now (table .entry)) .table ⌝ }
+    ensures { λ r. ⌜ r ≡ call 0 caller (ReRegisterName s n p) (now (table .entry)) .answer ⌝ }
+    ensures { λ _. ⌜ now (table .exit) ≡ call 0 caller (ReRegisterName s n p) (now (table .entry)) .table ⌝ }
 {
     if table::is_sound(table) {
         return naming::re_register_name(table, caller, s, n, p);
@@ -52,8 +51,8 @@ pub fn re_register_name(table: &mut [u64], caller: u32, s: u32, n: u32, p: u32) 
 
 // Takes the name out of the s_group's namespace.
 pub fn unregister_name(table: &mut [u64], caller: u32, s: u32, n: u32) -> Answer
-    ensures { λ r. ⌜ r ≡ call 0 caller (Within (UnregisterName s n)) (now (table .entry)) .answer ⌝ }
-    ensures { λ _. ⌜ now (table .exit) ≡ call 0 caller (Within (UnregisterName s n)) (now (table .entry)) .table ⌝ }
+    ensures { λ r. ⌜ r ≡ call 0 caller (UnregisterName s n) (now (table .entry)) .answer ⌝ }
+    ensures { λ _. ⌜ now (table .exit) ≡ call 0 caller (UnregisterName s n) (now (table .entry)) .table ⌝ }
 {
     if table::is_sound(table) {
         return naming::unregister_name(table, caller, s, n);
@@ -63,8 +62,8 @@ pub fn unregister_name(table: &mut [u64], caller: u32, s: u32, n: u32) -> Answer
 
 // The names of the s_group, listed in the run.
 pub fn registered_names(table: &[u64], caller: u32, s: u32, out: &mut [u64]) -> Answer
-    ensures { λ r. ⌜ r ≡ call (length (now (out .entry))) caller (Within (RegisteredNames s)) (now (table .entry)) .answer ⌝ }
-    ensures { λ _. ⌜ now (out .exit) ≡ listed-over (call (length (now (out .entry))) caller (Within (RegisteredNames s)) (now (table .entry)) .list) (now (out .entry)) ⌝ }
+    ensures { λ r. ⌜ r ≡ call (length (now (out .entry))) caller (RegisteredNames s) (now (table .entry)) .answer ⌝ }
+    ensures { λ _. ⌜ now (out .exit) ≡ listed-over (call (length (now (out .entry))) caller (RegisteredNames s) (now (table .entry)) .list) (now (out .entry)) ⌝ }
 {
     if table::is_sound(table) {
         return reading::registered_names(table, caller, s, out);
@@ -74,7 +73,7 @@ pub fn registered_names(table: &[u64], caller: u32, s: u32, out: &mut [u64]) -> 
 
 // What the caller finds under the name in the s_group.
 pub fn whereis_name(table: &[u64], caller: u32, s: u32, n: u32) -> Answer
-    ensures { λ r. ⌜ r ≡ call 0 caller (Within (WhereisName s n)) (now (table .entry)) .answer ⌝ }
+    ensures { λ r. ⌜ r ≡ call 0 caller (WhereisName s n) (now (table .entry)) .answer ⌝ }
 {
     if table::is_sound(table) {
         return reading::whereis_name(table, caller, s, n);
@@ -128,8 +127,8 @@ pub fn send_at(table: &mut [u64], caller: u32, node: u32, s: u32, n: u32) -> Ans
 
 // A new s_group of the set.
 pub fn new_s_group(table: &mut [u64], caller: u32, s: u32, set: u64) -> Answer
-    ensures { λ r. ⌜ r ≡ call 0 caller (Within (NewSGroup s set)) (now (table .entry)) .answer ⌝ }
-    ensures { λ _. ⌜ now (table .exit) ≡ call 0 caller (Within (NewSGroup s set)) (now (table .entry)) .table ⌝ }
+    ensures { λ r. ⌜ r ≡ call 0 caller (NewSGroup s set) (now (table .entry)) .answer ⌝ }
+    ensures { λ _. ⌜ now (table .exit) ≡ call 0 caller (NewSGroup s set) (now (table .entry)) .table ⌝ }
 {
     if table::is_sound(table) {
         return grouping::new_s_group(table, caller, s, set);
@@ -139,8 +138,8 @@ pub fn new_s_group(table: &mut [u64], caller: u32, s: u32, set: u64) -> Answer
 
 // The set joins the s_group.
 pub fn add_nodes(table: &mut [u64], caller: u32, s: u32, set: u64) -> Answer
-    ensures { λ r. ⌜ r ≡ call 0 caller (Within (AddNodes s set)) (now (table .entry)) .answer ⌝ }
-    ensures { λ _. ⌜ now (table .exit) ≡ call 0 caller (Within (AddNodes s set)) (now (table .entry)) .table ⌝ }
+    ensures { λ r. ⌜ r ≡ call 0 caller (AddNodes s set) (now (table .entry)) .answer ⌝ }
+    ensures { λ _. ⌜ now (table .exit) ≡ call 0 caller (AddNodes s set) (now (table .entry)) .table ⌝ }
 {
     if table::is_sound(table) {
         return grouping::add_nodes(table, caller, s, set);

@@ -3,8 +3,7 @@ ghost use mathlib.Core.Path.{_≡_};
 ghost use mathlib.Core.List.{[]};
 ghost use Rattle.answers.specs.Answers.{number};
 ghost use Rattle.semantics.specs.Sizes.{names-per-group};
-ghost use Rattle.commands.specs.declared.Command.the-variants.{Within, WhereisNameAt, Send, SendName, SendAt, RemoveNodes, DeleteSGroup, OwnNodes, OwnSGroups};
-ghost use Rattle.commands.specs.declared.GroupCommand.the-variants.{RegisterName, ReRegisterName, UnregisterName, RegisteredNames, WhereisName, NewSGroup, AddNodes};
+ghost use Rattle.commands.specs.declared.Command.the-variants.{RegisterName, ReRegisterName, UnregisterName, RegisteredNames, WhereisName, WhereisNameAt, Send, SendName, SendAt, NewSGroup, AddNodes, RemoveNodes, DeleteSGroup, OwnNodes, OwnSGroups};
 ghost use Rattle.semantics.specs.Call.{opening};
 ghost use Rattle.semantics.specs.Test.{sound};
 ghost use Rattle.answer_words.specs.AnswerWords.{told, commanded};
@@ -47,9 +46,9 @@ pub extern "C" fn sgroup_register_name(
     p: u32,
     answer: &mut [u64],
 ) -> u32
-    ensures { λ r. ⌜ r ≡ commanded caller (Within (RegisterName s n p)) (now (answer .entry)) [] (now (table .entry)) .returned ⌝ }
-    ensures { λ _. ⌜ now (answer .exit) ≡ commanded caller (Within (RegisterName s n p)) (now (answer .entry)) [] (now (table .entry)) .answer ⌝ }
-    ensures { λ _. ⌜ now (table .exit) ≡ commanded caller (Within (RegisterName s n p)) (now (answer .entry)) [] (now (table .entry)) .table ⌝ }
+    ensures { λ r. ⌜ r ≡ commanded caller (RegisterName s n p) (now (answer .entry)) [] (now (table .entry)) .returned ⌝ }
+    ensures { λ _. ⌜ now (answer .exit) ≡ commanded caller (RegisterName s n p) (now (answer .entry)) [] (now (table .entry)) .answer ⌝ }
+    ensures { λ _. ⌜ now (table .exit) ≡ commanded caller (RegisterName s n p) (now (answer .entry)) [] (now (table .entry)) .table ⌝ }
 {
     if answer.len() < ANSWER_WORDS {
         return NO_ROOM;
@@ -67,9 +66,9 @@ pub extern "C" fn sgroup_re_register_name(
     p: u32,
     answer: &mut [u64],
 ) -> u32
-    ensures { λ r. ⌜ r ≡ commanded caller (Within (ReRegisterName s n p)) (now (answer .entry)) [] (now (table .entry)) .returned ⌝ }
-    ensures { λ _. ⌜ now (answer .exit) ≡ commanded caller (Within (ReRegisterName s n p)) (now (answer .entry)) [] (now (table .entry)) .answer ⌝ }
-    ensures { λ _. ⌜ now (table .exit) ≡ commanded caller (Within (ReRegisterName s n p)) (now (answer .entry)) [] (now (table .entry)) .table ⌝ }
+    ensures { λ r. ⌜ r ≡ commanded caller (ReRegisterName s n p) (now (answer .entry)) [] (now (table .entry)) .returned ⌝ }
+    ensures { λ _. ⌜ now (answer .exit) ≡ commanded caller (ReRegisterName s n p) (now (answer .entry)) [] (now (table .entry)) .answer ⌝ }
+    ensures { λ _. ⌜ now (table .exit) ≡ commanded caller (ReRegisterName s n p) (now (answer .entry)) [] (now (table .entry)) .table ⌝ }
 {
     if answer.len() < ANSWER_WORDS {
         return NO_ROOM;
@@ -86,9 +85,9 @@ pub extern "C" fn sgroup_unregister_name(
     n: u32,
     answer: &mut [u64],
 ) -> u32
-    ensures { λ r. ⌜ r ≡ commanded caller (Within (UnregisterName s n)) (now (answer .entry)) [] (now (table .entry)) .returned ⌝ }
-    ensures { λ _. ⌜ now (answer .exit) ≡ commanded caller (Within (UnregisterName s n)) (now (answer .entry)) [] (now (table .entry)) .answer ⌝ }
-    ensures { λ _. ⌜ now (table .exit) ≡ commanded caller (Within (UnregisterName s n)) (now (answer .entry)) [] (now (table .entry)) .table ⌝ }
+    ensures { λ r. ⌜ r ≡ commanded caller (UnregisterName s n) (now (answer .entry)) [] (now (table .entry)) .returned ⌝ }
+    ensures { λ _. ⌜ now (answer .exit) ≡ commanded caller (UnregisterName s n) (now (answer .entry)) [] (now (table .entry)) .answer ⌝ }
+    ensures { λ _. ⌜ now (table .exit) ≡ commanded caller (UnregisterName s n) (now (answer .entry)) [] (now (table .entry)) .table ⌝ }
 {
     if answer.len() < ANSWER_WORDS {
         return NO_ROOM;
@@ -105,9 +104,9 @@ pub extern "C" fn sgroup_registered_names(
     out: &mut [u64],
     answer: &mut [u64],
 ) -> u32
-    ensures { λ r. ⌜ r ≡ commanded caller (Within (RegisteredNames s)) (now (answer .entry)) (now (out .entry)) (now (table .entry)) .returned ⌝ }
-    ensures { λ _. ⌜ now (answer .exit) ≡ commanded caller (Within (RegisteredNames s)) (now (answer .entry)) (now (out .entry)) (now (table .entry)) .answer ⌝ }
-    ensures { λ _. ⌜ now (out .exit) ≡ commanded caller (Within (RegisteredNames s)) (now (answer .entry)) (now (out .entry)) (now (table .entry)) .list ⌝ }
+    ensures { λ r. ⌜ r ≡ commanded caller (RegisteredNames s) (now (answer .entry)) (now (out .entry)) (now (table .entry)) .returned ⌝ }
+    ensures { λ _. ⌜ now (answer .exit) ≡ commanded caller (RegisteredNames s) (now (answer .entry)) (now (out .entry)) (now (table .entry)) .answer ⌝ }
+    ensures { λ _. ⌜ now (out .exit) ≡ commanded caller (RegisteredNames s) (now (answer .entry)) (now (out .entry)) (now (table .entry)) .list ⌝ }
 {
     if answer.len() < ANSWER_WORDS {
         return NO_ROOM;
@@ -124,8 +123,8 @@ pub extern "C" fn sgroup_whereis_name(
     n: u32,
     answer: &mut [u64],
 ) -> u32
-    ensures { λ r. ⌜ r ≡ commanded caller (Within (WhereisName s n)) (now (answer .entry)) [] (now (table .entry)) .returned ⌝ }
-    ensures { λ _. ⌜ now (answer .exit) ≡ commanded caller (Within (WhereisName s n)) (now (answer .entry)) [] (now (table .entry)) .answer ⌝ }
+    ensures { λ r. ⌜ r ≡ commanded caller (WhereisName s n) (now (answer .entry)) [] (now (table .entry)) .returned ⌝ }
+    ensures { λ _. ⌜ now (answer .exit) ≡ commanded caller (WhereisName s n) (now (answer .entry)) [] (now (table .entry)) .answer ⌝ }
 {
     if answer.len() < ANSWER_WORDS {
         return NO_ROOM;
@@ -214,9 +213,9 @@ pub extern "C" fn sgroup_new_s_group(
     set: u64,
     answer: &mut [u64],
 ) -> u32
-    ensures { λ r. ⌜ r ≡ commanded caller (Within (NewSGroup s set)) (now (answer .entry)) [] (now (table .entry)) .returned ⌝ }
-    ensures { λ _. ⌜ now (answer .exit) ≡ commanded caller (Within (NewSGroup s set)) (now (answer .entry)) [] (now (table .entry)) .answer ⌝ }
-    ensures { λ _. ⌜ now (table .exit) ≡ commanded caller (Within (NewSGroup s set)) (now (answer .entry)) [] (now (table .entry)) .table ⌝ }
+    ensures { λ r. ⌜ r ≡ commanded caller (NewSGroup s set) (now (answer .entry)) [] (now (table .entry)) .returned ⌝ }
+    ensures { λ _. ⌜ now (answer .exit) ≡ commanded caller (NewSGroup s set) (now (answer .entry)) [] (now (table .entry)) .answer ⌝ }
+    ensures { λ _. ⌜ now (table .exit) ≡ commanded caller (NewSGroup s set) (now (answer .entry)) [] (now (table .entry)) .table ⌝ }
 {
     if answer.len() < ANSWER_WORDS {
         return NO_ROOM;
@@ -233,9 +232,9 @@ pub extern "C" fn sgroup_add_nodes(
     set: u64,
     answer: &mut [u64],
 ) -> u32
-    ensures { λ r. ⌜ r ≡ commanded caller (Within (AddNodes s set)) (now (answer .entry)) [] (now (table .entry)) .returned ⌝ }
-    ensures { λ _. ⌜ now (answer .exit) ≡ commanded caller (Within (AddNodes s set)) (now (answer .entry)) [] (now (table .entry)) .answer ⌝ }
-    ensures { λ _. ⌜ now (table .exit) ≡ commanded caller (Within (AddNodes s set)) (now (answer .entry)) [] (now (table .entry)) .table ⌝ }
+    ensures { λ r. ⌜ r ≡ commanded caller (AddNodes s set) (now (answer .entry)) [] (now (table .entry)) .returned ⌝ }
+    ensures { λ _. ⌜ now (answer .exit) ≡ commanded caller (AddNodes s set) (now (answer .entry)) [] (now (table .entry)) .answer ⌝ }
+    ensures { λ _. ⌜ now (table .exit) ≡ commanded caller (AddNodes s set) (now (answer .entry)) [] (now (table .entry)) .table ⌝ }
 {
     if answer.len() < ANSWER_WORDS {
         return NO_ROOM;

@@ -13,9 +13,8 @@ use Rattle.entries.specs.Entries.{host, lookup, holds-pid}
 use Rattle.semantics.specs.Sizes.{group-limit, names-per-group, group-names, table-words}
 use Rattle.semantics.specs.State.{Group, State, find}
 use Rattle.commands.specs.declared.Command.{Command}
-use Rattle.commands.specs.declared.Command.the-variants.{Within, WhereisNameAt, Send, SendName, SendAt, RemoveNodes, DeleteSGroup, OwnNodes, OwnSGroups}
-use Rattle.commands.specs.declared.GroupCommand.{GroupCommand}
-use Rattle.commands.specs.declared.GroupCommand.the-variants.{RegisterName, ReRegisterName, UnregisterName, RegisteredNames, WhereisName, NewSGroup, AddNodes}
+use Rattle.commands.specs.declared.Command.the-variants.{RegisterName, ReRegisterName, UnregisterName, RegisteredNames, WhereisName, WhereisNameAt, Send, SendName, SendAt, NewSGroup, AddNodes, RemoveNodes, DeleteSGroup, OwnNodes, OwnSGroups}
+use Rattle.semantics.specs.GroupCommands.{GroupCommand, register-name, re-register-name, unregister-name, whereis-name, registered-names, add-nodes, new-s-group}
 use Rattle.answers.specs.Answers.{answer-of}
 use Rattle.semantics.specs.Ranges.{bad-group, held}
 use Rattle.semantics.specs.Steps.{Outcome, Effect, keep, done, say, listed, as-member, pid-or-undefined, full, name-words, inside, outcome, target, group-step}
@@ -43,16 +42,22 @@ count-of (Listed k) = k
 
 -- the commands that answer with a list
 abbrev pub lists-names : GroupCommand → Bool
-lists-names (RegisterName s n p) = false
-lists-names (ReRegisterName s n p) = false
-lists-names (UnregisterName s n) = false
-lists-names (WhereisName s n) = false
-lists-names (RegisteredNames s) = true
-lists-names (AddNodes s set) = false
-lists-names (NewSGroup s set) = false
+lists-names (register-name s n p) = false
+lists-names (re-register-name s n p) = false
+lists-names (unregister-name s n) = false
+lists-names (whereis-name s n) = false
+lists-names (registered-names s) = true
+lists-names (add-nodes s set) = false
+lists-names (new-s-group s set) = false
 
 abbrev pub lists : Command → Bool
-lists (Within c) = lists-names c
+lists (RegisterName s n p) = lists-names (register-name s n p)
+lists (ReRegisterName s n p) = lists-names (re-register-name s n p)
+lists (UnregisterName s n) = lists-names (unregister-name s n)
+lists (RegisteredNames s) = lists-names (registered-names s)
+lists (WhereisName s n) = lists-names (whereis-name s n)
+lists (NewSGroup s set) = lists-names (new-s-group s set)
+lists (AddNodes s set) = lists-names (add-nodes s set)
 lists (WhereisNameAt j s n) = false
 lists (SendAt j s n) = false
 lists (Send p) = false
@@ -106,7 +111,7 @@ module _ (Q : Answer → List ℕ → Type 0) (plain : (a : Answer) → count-of
 
   insides : (room N G i : ℕ) (c : GroupCommand) (found : Option Group) → (lists-names c ≡ true → (ws : List ℕ) → length ws ≤ room → Q (answer-of (Listed (length ws)) Done) ws) → Of-outcome Q (inside room N G i c found)
   unfolding inside
-  insides room N G i (RegisterName s n p) found f =
+  insides room N G i (register-name s n p) found f =
       or-outcome (eqb n 0) (says Error NameZero refl)
       (or-outcome (leb N (host p)) (says Error NodeUnknown refl)
       (for-members i False found _ refl (λ g.
@@ -114,25 +119,25 @@ module _ (Q : Answer → List ℕ → Type 0) (plain : (a : Answer) → count-of
       (or-outcome (holds-pid p (g .names)) (says False PidTaken refl)
       (or-outcome (full (g .names)) (says False NamespaceFull refl)
       (does _ True refl))))))
-  insides room N G i (ReRegisterName s n p) found f =
+  insides room N G i (re-register-name s n p) found f =
       or-outcome (eqb n 0) (says Error NameZero refl)
       (or-outcome (leb N (host p)) (says Error NodeUnknown refl)
       (for-members i False found _ refl (λ g.
       or-outcome (holds-pid p (g .names)) (says False PidTaken refl)
       (or-outcome (not (held (lookup n (g .names))) && full (g .names)) (says False NamespaceFull refl)
       (does _ True refl)))))
-  insides room N G i (UnregisterName s n) found f =
+  insides room N G i (unregister-name s n) found f =
       or-outcome (eqb n 0) (says Error NameZero refl)
       (for-members i False found _ refl (λ g.
       or-outcome (held (lookup n (g .names))) (does _ True refl) (says True NotRegistered refl)))
-  insides room N G i (WhereisName s n) found f =
+  insides room N G i (whereis-name s n) found f =
       or-outcome (eqb n 0) (says Error NameZero refl)
       (for-members i Undefined found _ refl (λ g. says (pid-or-undefined (lookup n (g .names))) _ (pid-plain (lookup n (g .names)))))
-  insides room N G i (RegisteredNames s) found f = for-members i (Listed 0) found _ refl (λ g. fitting room (name-words s (g .names)) (f refl _))
-  insides room N G i (AddNodes s set) found f =
+  insides room N G i (registered-names s) found f = for-members i (Listed 0) found _ refl (λ g. fitting room (name-words s (g .names)) (f refl _))
+  insides room N G i (add-nodes s set) found f =
       or-outcome (beyond set N) (says Error NodeUnknown refl)
       (for-members i Error found _ refl (λ g. does _ (Grouped s set) refl))
-  insides room N G i (NewSGroup s set) found f =
+  insides room N G i (new-s-group s set) found f =
       or-outcome (beyond set N) (says Error NodeUnknown refl)
       (or-outcome (not (has set i)) (says Error CallerOutside refl)
       (or-outcome (held found) (says Error GroupTaken refl)
@@ -170,7 +175,13 @@ module _ (Q : Answer → List ℕ → Type 0) (plain : (a : Answer) → count-of
 
   rules : (room i : ℕ) (c : Command) (st : State) → (lists c ≡ true → (ws : List ℕ) → length ws ≤ room → Q (answer-of (Listed (length ws)) Done) ws) → Of-result Q (rule room i c st)
   unfolding rule
-  rules room i (Within c) st f = groups room i c st f
+  rules room i (RegisterName s n p) st f = groups room i (register-name s n p) st f
+  rules room i (ReRegisterName s n p) st f = groups room i (re-register-name s n p) st f
+  rules room i (UnregisterName s n) st f = groups room i (unregister-name s n) st f
+  rules room i (RegisteredNames s) st f = groups room i (registered-names s) st f
+  rules room i (WhereisName s n) st f = groups room i (whereis-name s n) st f
+  rules room i (NewSGroup s set) st f = groups room i (new-s-group s set) st f
+  rules room i (AddNodes s set) st f = groups room i (add-nodes s set) st f
   rules room i (WhereisNameAt j s n) st f = asks j s n st _ (looks j s n st _)
   rules room i (SendAt j s n) st f = asks j s n st _ (looks j s n st _)
   rules room i (Send p) st f = or-result (leb (st .size) (host p)) (replies Error NodeUnknown st refl) (replies (Pid p) Done _ refl)

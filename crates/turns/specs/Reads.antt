@@ -11,9 +11,8 @@ use Rattle.nodes.specs.Sets.{has}
 use Rattle.semantics.specs.Sizes.{names-per-group, table-words}
 use Rattle.semantics.specs.State.{Group, State, find}
 use Rattle.commands.specs.declared.Command.{Command}
-use Rattle.commands.specs.declared.Command.the-variants.{Within, WhereisNameAt, Send, SendName, SendAt, RemoveNodes, DeleteSGroup, OwnNodes, OwnSGroups}
-use Rattle.commands.specs.declared.GroupCommand.{GroupCommand}
-use Rattle.commands.specs.declared.GroupCommand.the-variants.{RegisterName, ReRegisterName, UnregisterName, RegisteredNames, WhereisName, NewSGroup, AddNodes}
+use Rattle.commands.specs.declared.Command.the-variants.{RegisterName, ReRegisterName, UnregisterName, RegisteredNames, WhereisName, WhereisNameAt, Send, SendName, SendAt, NewSGroup, AddNodes, RemoveNodes, DeleteSGroup, OwnNodes, OwnSGroups}
+use Rattle.semantics.specs.GroupCommands.{GroupCommand, register-name, re-register-name, unregister-name, whereis-name, registered-names, add-nodes, new-s-group, within}
 use Rattle.semantics.specs.Ranges.{bad-group}
 use Rattle.semantics.specs.Steps.{Outcome, Effect, keep, error, listed, as-member, name-words, inside, outcome, apply, target, group-step, rule, step}
 use Rattle.semantics.specs.Table.{layout, state-of}
@@ -29,13 +28,13 @@ use Rattle.turns.specs.Lists.{lists}
 -- a command without a list does not feel it
 pub call-roomless : (room i : ℕ) (c : Command) (t : List ℕ) → lists c ≡ false → call room i c t ≡ call 0 i c t
 unfolding call step rule group-step outcome inside
-call-roomless room i (Within (RegisterName s n p)) t e = refl
-call-roomless room i (Within (ReRegisterName s n p)) t e = refl
-call-roomless room i (Within (UnregisterName s n)) t e = refl
-call-roomless room i (Within (WhereisName s n)) t e = refl
-call-roomless room i (Within (RegisteredNames s)) t e = absurd (let z : _≡_ {A = ℕ} 0 1 = cc in omega arith)
-call-roomless room i (Within (AddNodes s set)) t e = refl
-call-roomless room i (Within (NewSGroup s set)) t e = refl
+call-roomless room i (RegisterName s n p) t e = refl
+call-roomless room i (ReRegisterName s n p) t e = refl
+call-roomless room i (UnregisterName s n) t e = refl
+call-roomless room i (WhereisName s n) t e = refl
+call-roomless room i (RegisteredNames s) t e = absurd (let z : _≡_ {A = ℕ} 0 1 = cc in omega arith)
+call-roomless room i (AddNodes s set) t e = refl
+call-roomless room i (NewSGroup s set) t e = refl
 call-roomless room i (WhereisNameAt j s n) t e = refl
 call-roomless room i (SendAt j s n) t e = refl
 call-roomless room i (Send p) t e = refl
@@ -49,13 +48,13 @@ call-roomless room i OwnSGroups t e = absurd (let z : _≡_ {A = ℕ} 0 1 = cc i
 
 -- the commands that only read
 abbrev pub only-reads : Command → Bool
-only-reads (Within (RegisterName s n p)) = false
-only-reads (Within (ReRegisterName s n p)) = false
-only-reads (Within (UnregisterName s n)) = false
-only-reads (Within (WhereisName s n)) = true
-only-reads (Within (RegisteredNames s)) = true
-only-reads (Within (AddNodes s set)) = false
-only-reads (Within (NewSGroup s set)) = false
+only-reads (RegisterName s n p) = false
+only-reads (ReRegisterName s n p) = false
+only-reads (UnregisterName s n) = false
+only-reads (WhereisName s n) = true
+only-reads (RegisteredNames s) = true
+only-reads (AddNodes s set) = false
+only-reads (NewSGroup s set) = false
 only-reads (WhereisNameAt j s n) = false
 only-reads (SendAt j s n) = false
 only-reads (Send p) = false
@@ -77,18 +76,18 @@ effect-listed : (room : ℕ) (ws : List ℕ) → listed room ws .effect ≡ keep
 effect-listed room ws = effect-if (ltb room (length ws)) _ _ refl refl
 
 -- an s_group is kept
-kept : (room N G i : ℕ) (c : GroupCommand) (found : Option Group) → only-reads (Within c) ≡ true → inside room N G i c found .effect ≡ keep
+kept : (room N G i : ℕ) (c : GroupCommand) (found : Option Group) → only-reads (within c) ≡ true → inside room N G i c found .effect ≡ keep
 unfolding inside
-kept room N G i (RegisterName s n p) found e = absurd (let z : _≡_ {A = ℕ} 0 1 = cc in omega arith)
-kept room N G i (ReRegisterName s n p) found e = absurd (let z : _≡_ {A = ℕ} 0 1 = cc in omega arith)
-kept room N G i (UnregisterName s n) found e = absurd (let z : _≡_ {A = ℕ} 0 1 = cc in omega arith)
-kept room N G i (WhereisName s n) found e = effect-if (eqb n 0) _ _ refl (effect-member i _ found _ (λ g. refl))
-kept room N G i (RegisteredNames s) found e = effect-member i _ found _ (λ g. effect-listed room (name-words s (g .names)))
-kept room N G i (AddNodes s set) found e = absurd (let z : _≡_ {A = ℕ} 0 1 = cc in omega arith)
-kept room N G i (NewSGroup s set) found e = absurd (let z : _≡_ {A = ℕ} 0 1 = cc in omega arith)
+kept room N G i (register-name s n p) found e = absurd (let z : _≡_ {A = ℕ} 0 1 = cc in omega arith)
+kept room N G i (re-register-name s n p) found e = absurd (let z : _≡_ {A = ℕ} 0 1 = cc in omega arith)
+kept room N G i (unregister-name s n) found e = absurd (let z : _≡_ {A = ℕ} 0 1 = cc in omega arith)
+kept room N G i (whereis-name s n) found e = effect-if (eqb n 0) _ _ refl (effect-member i _ found _ (λ g. refl))
+kept room N G i (registered-names s) found e = effect-member i _ found _ (λ g. effect-listed room (name-words s (g .names)))
+kept room N G i (add-nodes s set) found e = absurd (let z : _≡_ {A = ℕ} 0 1 = cc in omega arith)
+kept room N G i (new-s-group s set) found e = absurd (let z : _≡_ {A = ℕ} 0 1 = cc in omega arith)
 
 -- a state is kept
-group-kept : (room i : ℕ) (c : GroupCommand) (st : State) → only-reads (Within c) ≡ true → group-step room i c st .next ≡ st
+group-kept : (room i : ℕ) (c : GroupCommand) (st : State) → only-reads (within c) ≡ true → group-step room i c st .next ≡ st
 unfolding group-step outcome apply
 group-kept room i c st e =
     ap (λ (f : Effect). apply (target c) f st)
@@ -97,7 +96,13 @@ group-kept room i c st e =
 
 rule-kept : (room i : ℕ) (c : Command) (st : State) → only-reads c ≡ true → rule room i c st .next ≡ st
 unfolding rule
-rule-kept room i (Within c) st e = group-kept room i c st e
+rule-kept room i (RegisterName s n p) st e = group-kept room i (register-name s n p) st e
+rule-kept room i (ReRegisterName s n p) st e = group-kept room i (re-register-name s n p) st e
+rule-kept room i (UnregisterName s n) st e = group-kept room i (unregister-name s n) st e
+rule-kept room i (RegisteredNames s) st e = group-kept room i (registered-names s) st e
+rule-kept room i (WhereisName s n) st e = group-kept room i (whereis-name s n) st e
+rule-kept room i (NewSGroup s set) st e = group-kept room i (new-s-group s set) st e
+rule-kept room i (AddNodes s set) st e = group-kept room i (add-nodes s set) st e
 rule-kept room i (WhereisNameAt j s n) st e = absurd (let z : _≡_ {A = ℕ} 0 1 = cc in omega arith)
 rule-kept room i (SendAt j s n) st e = absurd (let z : _≡_ {A = ℕ} 0 1 = cc in omega arith)
 rule-kept room i (Send p) st e = absurd (let z : _≡_ {A = ℕ} 0 1 = cc in omega arith)

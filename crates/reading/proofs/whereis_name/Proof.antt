@@ -3,8 +3,7 @@
 use borrow.Author.Needs.{needs}
 use mathlib.Core.Path.{_≡_, sym, ap, _∙_}
 use native.Mathlib.Omega.{arith}
-use Rattle.commands.specs.declared.Command.the-variants.{Within}
-use Rattle.commands.specs.declared.GroupCommand.the-variants.{WhereisName}
+use Rattle.commands.specs.declared.Command.the-variants.{WhereisName}
 use Rattle.semantics.specs.Steps.{Looked, tell}
 use Rattle.semantics.specs.Table.{state-of}
 use Rattle.semantics.specs.Call.{call}
@@ -21,7 +20,7 @@ use Rattle.reading.proofs.whereis_name.Tie as tie
 -- what the lookup found is told
 told-here : (f : tie.After-look) (l : Lookup) → f .look .result ≡ l → let p = f .before .before .before .before .before .before in
     let t = p .args .t .now in
-    tell (looked-up l) (here t) .answer ≡ call 0 (p .args .caller) (Within (WhereisName (p .args .s) (p .args .n))) t .answer
+    tell (looked-up l) (here t) .answer ≡ call 0 (p .args .caller) (WhereisName (p .args .s) (p .args .n)) t .answer
 unfolding state-of
 told-here f l e =
     let r = f .before .before .before in

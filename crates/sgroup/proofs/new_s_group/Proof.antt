@@ -2,8 +2,7 @@
 -- Assumes nothing.
 use borrow.Author.Needs.{needs}
 use mathlib.Core.Path.{sym, _∙_}
-use Rattle.commands.specs.declared.Command.the-variants.{Within}
-use Rattle.commands.specs.declared.GroupCommand.the-variants.{NewSGroup}
+use Rattle.commands.specs.declared.Command.the-variants.{NewSGroup}
 use Rattle.sgroup.specs.Unfit.{sound-run, says-unfit}
 use Rattle.sgroup.proofs.new_s_group.Statement.{statement}
 use Rattle.sgroup.proofs.new_s_group.Tie as tie
@@ -29,7 +28,7 @@ same-length-2 c = search needs
 returns-2 : tie.Need-returns-2
 returns-2 c =
     let a = c .before .before .before .before .before .before .args in
-    says-unfit 0 (a .caller) (Within (NewSGroup (a .s) (a .set))) (a .table .now) (c .unfit .result) (sym (c .before .before .before .is-sound .ensures) ∙ c .before .before .if1 .left) (c .unfit .ensures)
+    says-unfit 0 (a .caller) (NewSGroup (a .s) (a .set)) (a .table .now) (c .unfit .result) (sym (c .before .before .before .is-sound .ensures) ∙ c .before .before .if1 .left) (c .unfit .ensures)
 
 pub new-s-group-spec : {M : Type 1} → statement M
 new-s-group-spec =

@@ -2,8 +2,7 @@
 -- Assumes nothing.
 use borrow.Author.Needs.{needs}
 use mathlib.Core.Path.{sym, _∙_}
-use Rattle.commands.specs.declared.Command.the-variants.{Within}
-use Rattle.commands.specs.declared.GroupCommand.the-variants.{RegisterName}
+use Rattle.commands.specs.declared.Command.the-variants.{RegisterName}
 use Rattle.sgroup.specs.Unfit.{sound-run, says-unfit}
 use Rattle.sgroup.proofs.register_name.Statement.{statement}
 use Rattle.sgroup.proofs.register_name.Tie as tie
@@ -29,7 +28,7 @@ same-length-2 c = search needs
 returns-2 : tie.Need-returns-2
 returns-2 c =
     let a = c .before .before .before .before .before .before .args in
-    says-unfit 0 (a .caller) (Within (RegisterName (a .s) (a .n) (a .p))) (a .table .now) (c .unfit .result) (sym (c .before .before .before .is-sound .ensures) ∙ c .before .before .if1 .left) (c .unfit .ensures)
+    says-unfit 0 (a .caller) (RegisterName (a .s) (a .n) (a .p)) (a .table .now) (c .unfit .result) (sym (c .before .before .before .is-sound .ensures) ∙ c .before .before .if1 .left) (c .unfit .ensures)
 
 pub register-name-spec : {M : Type 1} → statement M
 register-name-spec =

@@ -2,8 +2,7 @@
 -- Assumes nothing.
 use borrow.Author.Needs.{needs}
 use mathlib.Core.Path.{sym, _∙_}
-use Rattle.commands.specs.declared.Command.the-variants.{Within}
-use Rattle.commands.specs.declared.GroupCommand.the-variants.{RegisteredNames}
+use Rattle.commands.specs.declared.Command.the-variants.{RegisteredNames}
 use Rattle.sgroup.specs.Unfit.{sound-run, lists-unfit}
 use Rattle.sgroup.proofs.registered_names.Statement.{statement}
 use Rattle.sgroup.proofs.registered_names.Tie as tie
@@ -26,7 +25,7 @@ unfit-requires c κs = search needs
 returns-2 : tie.Need-returns-2
 returns-2 c =
     let a = c .before .before .before .before .before .args in
-    lists-unfit (a .caller) (Within (RegisteredNames (a .s))) (a .table .now) (a .out .now) (c .unfit .result) (sym (c .before .before .is-sound .ensures) ∙ c .before .if1 .left) (c .unfit .ensures)
+    lists-unfit (a .caller) (RegisteredNames (a .s)) (a .table .now) (a .out .now) (c .unfit .result) (sym (c .before .before .is-sound .ensures) ∙ c .before .if1 .left) (c .unfit .ensures)
 
 pub registered-names-spec : {M : Type 1} → statement M
 registered-names-spec =

@@ -2,8 +2,7 @@
 -- Assumes nothing.
 use borrow.Author.Needs.{needs}
 use mathlib.Core.Path.{sym, _∙_}
-use Rattle.commands.specs.declared.Command.the-variants.{Within}
-use Rattle.commands.specs.declared.GroupCommand.the-variants.{WhereisName}
+use Rattle.commands.specs.declared.Command.the-variants.{WhereisName}
 use Rattle.sgroup.specs.Unfit.{sound-run, says-unfit}
 use Rattle.sgroup.proofs.whereis_name.Statement.{statement}
 use Rattle.sgroup.proofs.whereis_name.Tie as tie
@@ -23,7 +22,7 @@ unfit-requires c κs = search needs
 returns-2 : tie.Need-returns-2
 returns-2 c =
     let a = c .before .before .before .before .args in
-    says-unfit 0 (a .caller) (Within (WhereisName (a .s) (a .n))) (a .table .now) (c .unfit .result) (sym (c .before .before .is-sound .ensures) ∙ c .before .if1 .left) (c .unfit .ensures) .0
+    says-unfit 0 (a .caller) (WhereisName (a .s) (a .n)) (a .table .now) (c .unfit .result) (sym (c .before .before .is-sound .ensures) ∙ c .before .if1 .left) (c .unfit .ensures) .0
 
 pub whereis-name-spec : {M : Type 1} → statement M
 whereis-name-spec =

@@ -2,8 +2,7 @@
 -- Assumes nothing.
 use borrow.Author.Needs.{needs}
 use mathlib.Core.List.{[]}
-use Rattle.commands.specs.declared.Command.the-variants.{Within}
-use Rattle.commands.specs.declared.GroupCommand.the-variants.{AddNodes}
+use Rattle.commands.specs.declared.Command.the-variants.{AddNodes}
 use Rattle.semantics.specs.Call.{call}
 use Rattle.answer_words.specs.Told.{silent-table, tells-table}
 use Rattle.sgroup_c.proofs.sgroup_add_nodes.Statement.{statement}
@@ -12,7 +11,7 @@ use Rattle.sgroup_c.proofs.sgroup_add_nodes.Tie as tie
 returns : tie.Need-returns
 returns c =
     let a = c .before .before .before .args in
-    silent-table (call 0 (a .caller) (Within (AddNodes (a .s) (a .set))) (a .table .now)) (a .answer .now) [] (a .table .now) (c .if1 .taken)
+    silent-table (call 0 (a .caller) (AddNodes (a .s) (a .set)) (a .table .now)) (a .answer .now) [] (a .table .now) (c .if1 .taken)
 
 add-nodes-requires : tie.Need-add-nodes-requires
 add-nodes-requires c κs = search needs
@@ -31,7 +30,7 @@ returns-2 c =
     let b = c .before .before .before .before .before in
     let e = b .before .before .before in
     let a = e .before .before .before .args in
-    tells-table (call 0 (a .caller) (Within (AddNodes (a .s) (a .set))) (a .table .now)) (a .answer .now) [] (a .table .now) (e .if1 .left) (b .add-nodes .ensures) (c .before .before .put .ensures)
+    tells-table (call 0 (a .caller) (AddNodes (a .s) (a .set)) (a .table .now)) (a .answer .now) [] (a .table .now) (e .if1 .left) (b .add-nodes .ensures) (c .before .before .put .ensures)
 
 pub sgroup-add-nodes-spec : {M : Type 1} → statement M
 sgroup-add-nodes-spec =

@@ -2,8 +2,7 @@
 -- Assumes nothing.
 use borrow.Author.Needs.{needs}
 use mathlib.Core.List.{[]}
-use Rattle.commands.specs.declared.Command.the-variants.{Within}
-use Rattle.commands.specs.declared.GroupCommand.the-variants.{ReRegisterName}
+use Rattle.commands.specs.declared.Command.the-variants.{ReRegisterName}
 use Rattle.semantics.specs.Call.{call}
 use Rattle.answer_words.specs.Told.{silent-table, tells-table}
 use Rattle.sgroup_c.proofs.sgroup_re_register_name.Statement.{statement}
@@ -12,7 +11,7 @@ use Rattle.sgroup_c.proofs.sgroup_re_register_name.Tie as tie
 returns : tie.Need-returns
 returns c =
     let a = c .before .before .before .args in
-    silent-table (call 0 (a .caller) (Within (ReRegisterName (a .s) (a .n) (a .p))) (a .table .now)) (a .answer .now) [] (a .table .now) (c .if1 .taken)
+    silent-table (call 0 (a .caller) (ReRegisterName (a .s) (a .n) (a .p)) (a .table .now)) (a .answer .now) [] (a .table .now) (c .if1 .taken)
 
 re-register-name-requires : tie.Need-re-register-name-requires
 re-register-name-requires c κs = search needs
@@ -31,7 +30,7 @@ returns-2 c =
     let b = c .before .before .before .before .before in
     let e = b .before .before .before in
     let a = e .before .before .before .args in
-    tells-table (call 0 (a .caller) (Within (ReRegisterName (a .s) (a .n) (a .p))) (a .table .now)) (a .answer .now) [] (a .table .now) (e .if1 .left) (b .re-register-name .ensures) (c .before .before .put .ensures)
+    tells-table (call 0 (a .caller) (ReRegisterName (a .s) (a .n) (a .p)) (a .table .now)) (a .answer .now) [] (a .table .now) (e .if1 .left) (b .re-register-name .ensures) (c .before .before .put .ensures)
 
 pub sgroup-re-register-name-spec : {M : Type 1} → statement M
 sgroup-re-register-name-spec =

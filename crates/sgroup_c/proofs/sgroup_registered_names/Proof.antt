@@ -2,8 +2,7 @@
 -- Assumes nothing.
 use borrow.Author.Needs.{needs}
 use lib.ListN.{length}
-use Rattle.commands.specs.declared.Command.the-variants.{Within}
-use Rattle.commands.specs.declared.GroupCommand.the-variants.{RegisteredNames}
+use Rattle.commands.specs.declared.Command.the-variants.{RegisteredNames}
 use Rattle.semantics.specs.Call.{call}
 use Rattle.answer_words.specs.Told.{silent-list, tells-list}
 use Rattle.sgroup_c.proofs.sgroup_registered_names.Statement.{statement}
@@ -12,7 +11,7 @@ use Rattle.sgroup_c.proofs.sgroup_registered_names.Tie as tie
 returns : tie.Need-returns
 returns c =
     let a = c .before .before .before .before .args in
-    silent-list (call (length (a .out .now)) (a .caller) (Within (RegisteredNames (a .s))) (a .table .now)) (a .answer .now) (a .out .now) (a .table .now) (c .if1 .taken)
+    silent-list (call (length (a .out .now)) (a .caller) (RegisteredNames (a .s)) (a .table .now)) (a .answer .now) (a .out .now) (a .table .now) (c .if1 .taken)
 
 registered-names-requires : tie.Need-registered-names-requires
 registered-names-requires c κs = search needs
@@ -31,7 +30,7 @@ returns-2 c =
     let b = c .before .before .before .before .before in
     let e = b .before .before .before in
     let a = e .before .before .before .before .args in
-    tells-list (call (length (a .out .now)) (a .caller) (Within (RegisteredNames (a .s))) (a .table .now)) (a .answer .now) (a .out .now) (a .table .now) (e .if1 .left) (b .registered-names .ensures) (c .before .before .put .ensures)
+    tells-list (call (length (a .out .now)) (a .caller) (RegisteredNames (a .s)) (a .table .now)) (a .answer .now) (a .out .now) (a .table .now) (e .if1 .left) (b .registered-names .ensures) (c .before .before .put .ensures)
 
 pub sgroup-registered-names-spec : {M : Type 1} → statement M
 sgroup-registered-names-spec =

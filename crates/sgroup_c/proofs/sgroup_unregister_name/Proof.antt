@@ -2,8 +2,7 @@
 -- Assumes nothing.
 use borrow.Author.Needs.{needs}
 use mathlib.Core.List.{[]}
-use Rattle.commands.specs.declared.Command.the-variants.{Within}
-use Rattle.commands.specs.declared.GroupCommand.the-variants.{UnregisterName}
+use Rattle.commands.specs.declared.Command.the-variants.{UnregisterName}
 use Rattle.semantics.specs.Call.{call}
 use Rattle.answer_words.specs.Told.{silent-table, tells-table}
 use Rattle.sgroup_c.proofs.sgroup_unregister_name.Statement.{statement}
@@ -12,7 +11,7 @@ use Rattle.sgroup_c.proofs.sgroup_unregister_name.Tie as tie
 returns : tie.Need-returns
 returns c =
     let a = c .before .before .before .args in
-    silent-table (call 0 (a .caller) (Within (UnregisterName (a .s) (a .n))) (a .table .now)) (a .answer .now) [] (a .table .now) (c .if1 .taken)
+    silent-table (call 0 (a .caller) (UnregisterName (a .s) (a .n)) (a .table .now)) (a .answer .now) [] (a .table .now) (c .if1 .taken)
 
 unregister-name-requires : tie.Need-unregister-name-requires
 unregister-name-requires c κs = search needs
@@ -31,7 +30,7 @@ returns-2 c =
     let b = c .before .before .before .before .before in
     let e = b .before .before .before in
     let a = e .before .before .before .args in
-    tells-table (call 0 (a .caller) (Within (UnregisterName (a .s) (a .n))) (a .table .now)) (a .answer .now) [] (a .table .now) (e .if1 .left) (b .unregister-name .ensures) (c .before .before .put .ensures)
+    tells-table (call 0 (a .caller) (UnregisterName (a .s) (a .n)) (a .table .now)) (a .answer .now) [] (a .table .now) (e .if1 .left) (b .unregister-name .ensures) (c .before .before .put .ensures)
 
 pub sgroup-unregister-name-spec : {M : Type 1} → statement M
 sgroup-unregister-name-spec =

@@ -2,8 +2,7 @@
 -- Assumes nothing.
 use borrow.Author.Needs.{needs}
 use mathlib.Core.List.{[]}
-use Rattle.commands.specs.declared.Command.the-variants.{Within}
-use Rattle.commands.specs.declared.GroupCommand.the-variants.{WhereisName}
+use Rattle.commands.specs.declared.Command.the-variants.{WhereisName}
 use Rattle.semantics.specs.Call.{call}
 use Rattle.answer_words.specs.Told.{silent, tells}
 use Rattle.sgroup_c.proofs.sgroup_whereis_name.Statement.{statement}
@@ -12,7 +11,7 @@ use Rattle.sgroup_c.proofs.sgroup_whereis_name.Tie as tie
 returns : tie.Need-returns
 returns c =
     let a = c .before .before .before .args in
-    silent (call 0 (a .caller) (Within (WhereisName (a .s) (a .n))) (a .table .now)) (a .answer .now) [] (a .table .now) (c .if1 .taken)
+    silent (call 0 (a .caller) (WhereisName (a .s) (a .n)) (a .table .now)) (a .answer .now) [] (a .table .now) (c .if1 .taken)
 
 whereis-name-requires : tie.Need-whereis-name-requires
 whereis-name-requires c κs = search needs
@@ -28,7 +27,7 @@ returns-2 c =
     let b = c .before .before .before in
     let e = b .before .before in
     let a = e .before .before .before .args in
-    tells (call 0 (a .caller) (Within (WhereisName (a .s) (a .n))) (a .table .now)) (a .answer .now) [] (a .table .now) (e .if1 .left) (b .whereis-name .ensures) (c .before .before .put .ensures)
+    tells (call 0 (a .caller) (WhereisName (a .s) (a .n)) (a .table .now)) (a .answer .now) [] (a .table .now) (e .if1 .left) (b .whereis-name .ensures) (c .before .before .put .ensures)
 
 pub sgroup-whereis-name-spec : {M : Type 1} → statement M
 sgroup-whereis-name-spec =

@@ -1,6 +1,8 @@
 // The answers of Icespruce: a value and one reason, with the numbers and output words of document 01.
 ghost use mathlib.Core.Path.{_≡_};
-ghost use Rattle.answers.specs.Answers.{number, kind};
+ghost use Rattle.answers.specs.Answers.{number, kind, answer-of};
+ghost use Rattle.answers.specs.declared.Value.the-variants.{Error};
+ghost use Rattle.answers.specs.declared.Reason.the-variants.{Done};
 
 // What a call answers.
 pub enum Value {
@@ -45,6 +47,30 @@ pub enum Reason {
 pub struct Answer {
     pub value: Value,
     pub reason: Reason,
+}
+
+// A value beside a reason.
+pub fn said(value: Value, reason: Reason) -> Answer
+    ensures { λ r. ⌜ r ≡ answer-of value reason ⌝ }
+{
+    Answer {
+        value: value,
+        reason: reason,
+    }
+}
+
+// The rule's main case.
+pub fn done(value: Value) -> Answer
+    ensures { λ r. ⌜ r ≡ answer-of value Done ⌝ }
+{
+    said(value, Reason::Done)
+}
+
+// Error, for a reason.
+pub fn refused(reason: Reason) -> Answer
+    ensures { λ r. ⌜ r ≡ answer-of Error reason ⌝ }
+{
+    said(Value::Error, reason)
 }
 
 // The number that document 01 gives a reason.

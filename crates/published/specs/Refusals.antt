@@ -8,11 +8,10 @@ use lib.Dec.{eqb, ltb, leb}
 use lib.ListN.{length}
 use Rattle.nodes.specs.Sets.{node-limit, has}
 use Rattle.entries.specs.Entries.{half-word, host}
-use Rattle.answers.specs.Answers.{number}
 use Rattle.semantics.specs.Sizes.{group-limit, names-per-group, group-names, table-words}
 use Rattle.commands.specs.declared.Command.{Command}
 use Rattle.commands.specs.declared.Command.the-variants.{RegisterName, ReRegisterName, UnregisterName, RegisteredNames, WhereisName, WhereisNameAt, Send, SendName, SendAt, NewSGroup, AddNodes, RemoveNodes, DeleteSGroup, OwnNodes, OwnSGroups}
-use Rattle.answers.specs.Answers.{answer-of}
+use Rattle.answers.specs.Answers.{among, refuses, answer-of}
 use Rattle.semantics.specs.Ranges.{held, bad-group}
 use Rattle.answers.specs.declared.Answer.{Answer}
 use Rattle.answers.specs.declared.Reason.{Reason}
@@ -124,15 +123,13 @@ opening-tests run N nis =
 
 -- ---- the answer
 
--- 000 has a rule for reason 0 and for 8 to 12 and 14; the others are 01's
+-- 000 has a rule where nothing is refused, and for 8 to 12 and 14; the others are 01's
 abbrev pub ruled : Reason → Bool
-ruled r =
-    eqb (number r) (number Done) || (leb (number GroupUnknown) (number r) && leb (number r) (number NotRegistered))
-    || eqb (number r) (number CallerOutside)
+ruled r = not (refuses r) || among r (GroupUnknown ∷ NotMember ∷ NameTaken ∷ PidTaken ∷ NotRegistered ∷ CallerOutside ∷ [])
 
 -- what 01 answers for its own: Error, and False for a full namespace
 abbrev pub refusal : Reason → Value
-refusal r = cond (eqb (number r) (number NamespaceFull)) False Error
+refusal r = cond (among r (NamespaceFull ∷ [])) False Error
 
 -- the state after a command, the library's answer, and the words of its list
 pub record Answered : Type 0 where

@@ -27,3 +27,4 @@ pub mod FreeGroups
 pub mod Listed
 pub mod LowestReason
 pub mod OpeningRule
+pub mod RefusedLinks

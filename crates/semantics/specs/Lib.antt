@@ -55,5 +55,4 @@ pub mod StateTest
 pub mod Swap
 pub mod TestLaws
 pub mod RoundTrip
-pub mod Unique
 pub mod WordByWord

@@ -8,7 +8,7 @@ use mathlib.Core.List.{List, []}
 use Prim.Native.Nat.{ℕ, _<_}
 use lib.Dec.{eqb, leb, ltb}
 use lib.ListN.{length}
-use borrow.Author.Tests.{eqb-true, eq-eqb, ne-eqb, leb-false}
+use borrow.Author.Tests.{eq-eqb, ne-eqb, leb-false}
 use Rattle.nodes.specs.Sets.{has, beyond}
 use Rattle.nodes.specs.Bools.{by-test}
 use Rattle.entries.specs.Entries.{lookup, holds-pid, host}
@@ -220,9 +220,9 @@ refused-links room i j c k t n =
 -- ---- runs that are no sound table
 
 -- a run of another length: Error 1, an empty list, every word as it was
-pub long-refused : (room i : ℕ) (c : Command) (t : List ℕ) → length t ≢ table-words names-per-group → call room i c t ≡ refused TableLength t
+pub length-refused : (room i : ℕ) (c : Command) (t : List ℕ) → length t ≢ table-words names-per-group → call room i c t ≡ refused TableLength t
 unfolding call
-long-refused room i c t n = rw (ne-eqb (length t) (table-words names-per-group) n)
+length-refused room i c t n = rw (ne-eqb (length t) (table-words names-per-group) n)
 
 -- a run of a table's length that is not sound: Error 3, an empty list, every word as it was
 pub unsound-refused : (room i : ℕ) (c : Command) (t : List ℕ) → length t ≡ table-words names-per-group → (Sound names-per-group t → ⊥)

@@ -1,16 +1,13 @@
 -- The sample script of document 01 and its edges, on whole tables, shown by computation. Assumes nothing.
 use mathlib.Core.Path.{_≡_, refl}
-use mathlib.Core.Logic.{_≢_}
 use mathlib.Core.Bool.{true}
 use mathlib.Core.List.{List, [], _∷_, map}
 use Prim.Native.Nat.{ℕ, zero, suc, _+_, _-_}
 use lib.ListN.{length, replicate}
-use borrow.Author.Tests.{ne-eqb}
 use Rattle.nodes.specs.Sets.{node-limit}
 use Rattle.entries.specs.Entries.{Entry}
 use Rattle.semantics.specs.Sizes.{group-limit, names-per-group, group-names, table-words}
 use Rattle.semantics.specs.State.{Group}
-use Rattle.commands.specs.declared.Command.{Command}
 use Rattle.commands.specs.declared.Command.the-variants.{RegisterName, ReRegisterName, RegisteredNames, WhereisName, WhereisNameAt, NewSGroup, RemoveNodes, DeleteSGroup, OwnNodes, OwnSGroups}
 use Rattle.answers.specs.Answers.{answer-of}
 use Rattle.semantics.specs.Steps.{name-words}
@@ -23,7 +20,7 @@ use Rattle.semantics.specs.Compute.{computing}
 use Rattle.answers.specs.declared.Value.{Value}
 use Rattle.answers.specs.declared.Value.the-variants.{Ok, True, False, Undefined, Pid, Grouped, Nodes, Listed}
 use Rattle.answers.specs.declared.Reason.{Reason}
-use Rattle.answers.specs.declared.Reason.the-variants.{Done, TableLength, RosterSize, Unsound, GroupNameRange, NodeUnknown, NotMember, PidTaken, NotRegistered, NamespaceFull, GroupsFull, RunShort}
+use Rattle.answers.specs.declared.Reason.the-variants.{Done, RosterSize, Unsound, GroupNameRange, NodeUnknown, NotMember, PidTaken, NotRegistered, NamespaceFull, GroupsFull, RunShort}
 
 -- ---- tables and answers
 
@@ -203,8 +200,3 @@ free-in-none = refl
 pub zeros-unsound : call 64 0 OwnNodes blank ≡ refused Unsound blank
 unfolding computing
 zeros-unsound = refl
-
-pub wrong-length : (t : List ℕ) → length t ≢ table-words names-per-group
-    → ((room i : ℕ) (c : Command) → call room i c t ≡ refused TableLength t) × ((N hidden : ℕ) → opening N hidden t ≡ refused TableLength t)
-unfolding call opening
-wrong-length t h = (λ room i c. rw (ne-eqb (length t) (table-words names-per-group) h), λ N hidden. rw (ne-eqb (length t) (table-words names-per-group) h))

@@ -24,7 +24,7 @@ use Rattle.semantics.specs.Table.{layout, state-of}
 use Rattle.semantics.specs.Soundness.{Sound}
 use Rattle.semantics.specs.Test.{sound}
 use Rattle.semantics.specs.Agree.{test-regular, sound-iff}
-use Rattle.semantics.specs.Call.{refused, call}
+use Rattle.semantics.specs.Call.{refused, call, opening}
 use Rattle.semantics.specs.Calls.{why, call-sound, call-unsound}
 use Rattle.answers.specs.declared.Value.{Value}
 use Rattle.answers.specs.declared.Reason.{Reason}
@@ -219,15 +219,16 @@ refused-links room i j c k t n =
 
 -- ---- runs that are no sound table
 
--- a run of another length: Error 1, an empty list, every word as it was
-pub length-refused : (room i : ℕ) (c : Command) (t : List ℕ) → length t ≢ table-words names-per-group → call room i c t ≡ refused TableLength t
-unfolding call
-length-refused room i c t n = rw (ne-eqb (length t) (table-words names-per-group) n)
+-- a run of another length, for every command and for opening: Error 1, an empty list, every word as it was
+pub wrong-length : (t : List ℕ) → length t ≢ table-words names-per-group
+    → ((room i : ℕ) (c : Command) → call room i c t ≡ refused TableLength t) × ((N hidden : ℕ) → opening N hidden t ≡ refused TableLength t)
+unfolding call opening
+wrong-length t n = (λ room i c. rw (ne-eqb (length t) (table-words names-per-group) n), λ N hidden. rw (ne-eqb (length t) (table-words names-per-group) n))
 
--- a run of a table's length that is not sound: Error 3, an empty list, every word as it was
-pub unsound-refused : (room i : ℕ) (c : Command) (t : List ℕ) → length t ≡ table-words names-per-group → (Sound names-per-group t → ⊥)
-    → call room i c t ≡ refused Unsound t
-unsound-refused room i c t e n =
+-- a run of a table's length that is not sound, for every command: Error 3, an empty list, every word as it was
+pub wrong-words : (t : List ℕ) → length t ≡ table-words names-per-group → (Sound names-per-group t → ⊥)
+    → (room i : ℕ) (c : Command) → call room i c t ≡ refused Unsound t
+wrong-words t e n room i c =
     ⊎-elim
     (λ (p : sound names-per-group t ≡ true). absurd (n (sound-iff names-per-group t .0 p)))
     (λ (p : sound names-per-group t ≡ false). call-unsound room i c t p ∙ rw (eq-eqb (length t) (table-words names-per-group) e))

@@ -17,7 +17,7 @@ use Rattle.answers.specs.declared.Answer.{Answer}
 use Rattle.answers.specs.declared.Reason.{Reason}
 use Rattle.answers.specs.declared.Reason.the-variants.{Done, TableLength, RosterSize, CallerUnknown, GroupNameRange, NameZero, NodeUnknown, GroupUnknown, NotMember, NameTaken, PidTaken, NotRegistered, NamespaceFull, CallerOutside, GroupTaken, GroupsFull, RunShort}
 use Rattle.published.specs.Published.{Set, of-some, any, Namespace, Published, IsSGroupSNode, has-pid, Value, False, Error, Step, gives, transition}
-use Rattle.published.specs.Seen.{count, said}
+use Rattle.published.specs.Seen.{how-many, said}
 
 -- ---- what the reasons ask
 
@@ -43,7 +43,7 @@ names-in s X n = of-some none (λ g. g .namespace n) (X .grs s)
 
 -- the namespace of s has no room
 abbrev pub full : ℕ → Published → Bool
-full s X = leb names-per-group (count half-word (λ n. held (names-in s X n)))
+full s X = leb names-per-group (how-many half-word (λ n. held (names-in s X n)))
 
 -- the run for a list has fewer words than the list that 000's rule gives
 abbrev pub run-short : ℕ → Step → Bool
@@ -104,7 +104,7 @@ tests room (AddNodes s set) ni X = tests-set s set ni X
 tests room (NewSGroup s set) ni X =
     CallerUnknown when off-roster ni X ∷ GroupNameRange when bad-group s ∷ NodeUnknown when strays (has set) X
     ∷ CallerOutside when not (has set ni) ∷ GroupTaken when held (X .grs s)
-    ∷ GroupsFull when leb group-limit (count group-names (λ t. held (X .grs t))) ∷ []
+    ∷ GroupsFull when leb group-limit (how-many group-names (λ t. held (X .grs t))) ∷ []
 tests room (WhereisNameAt ni′ s n) ni X = tests-at ni′ s n ni X
 tests room (SendAt ni′ s n) ni X = tests-at ni′ s n ni X
 tests room (Send p) ni X = CallerUnknown when off-roster ni X ∷ NodeUnknown when off-roster (host p) X ∷ []

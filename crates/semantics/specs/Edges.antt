@@ -15,7 +15,7 @@ use Rattle.semantics.specs.Table.{pad, layout}
 use Rattle.semantics.specs.Test.{sound}
 use Rattle.semantics.specs.Call.{refused, call, opening}
 use Rattle.semantics.specs.Lines.{Said, said-by-call}
-use Rattle.semantics.specs.Marked.{_says_, calls, run, claim}
+use Rattle.semantics.specs.Marked.{_says_, calls, session, claim}
 use Rattle.semantics.specs.Compute.{computing}
 use Rattle.answers.specs.declared.Value.{Value}
 use Rattle.answers.specs.declared.Value.the-variants.{Ok, True, False, Undefined, Pid, Grouped, Nodes, Listed}
@@ -33,8 +33,8 @@ abbrev pub table-of : ℕ → ℕ → List Group → List ℕ → List ℕ → L
 table-of N hidden gs ls fs = layout names-per-group (record { size = N; hidden = hidden; groups = gs; links = pad node-limit ls; free = pad node-limit fs })
 
 -- an answer without a list
-abbrev pub told : Value → Reason → Said
-told v r = record { answer = answer-of v r; list = [] }
+abbrev pub hears : Value → Reason → Said
+hears v r = record { answer = answer-of v r; list = [] }
 
 -- a list
 abbrev pub list-of : List ℕ → Said
@@ -42,11 +42,11 @@ list-of ws = record { answer = answer-of (Listed (length ws)) Done; list = ws }
 
 -- ---- the sample script
 
-pub sample : map said-by-call (run 4 8 blank (0 says NewSGroup 5 3 ∷ 0 says RegisterName 5 70 67108865 ∷ 1 says WhereisName 5 70
+pub sample : map said-by-call (session 4 8 blank (0 says NewSGroup 5 3 ∷ 0 says RegisterName 5 70 67108865 ∷ 1 says WhereisName 5 70
     ∷ 2 says WhereisName 5 70 ∷ 1 says WhereisName 5 71 ∷ 0 says OwnNodes ∷ []))
-    ≡ told Ok Done ∷ told (Grouped 5 3) Done ∷ told True Done ∷ told (Pid 67108865) Done
-    ∷ told Undefined NotMember ∷ told Undefined NotRegistered ∷ told (Nodes 3 2) Done ∷ []
-unfolding computing run calls
+    ≡ hears Ok Done ∷ hears (Grouped 5 3) Done ∷ hears True Done ∷ hears (Pid 67108865) Done
+    ∷ hears Undefined NotMember ∷ hears Undefined NotRegistered ∷ hears (Nodes 3 2) Done ∷ []
+unfolding computing session calls
 sample = refl
 
 -- ---- a full namespace

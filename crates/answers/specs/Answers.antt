@@ -1,6 +1,10 @@
--- What document 01 writes for each answer: the number of a reason, the output word of a value and the numbers after it. Assumes nothing.
+-- What document 01 writes for each answer: the number and the rank of a reason, the output word of a value and the numbers after it; which
+-- answers are refusals. Assumes nothing.
+use mathlib.Core.Path.{_≡_}
+use mathlib.Core.Bool.{Bool, true, false, not, _||_, cond}
 use mathlib.Core.List.{List, [], _∷_}
-use Prim.Native.Nat.{ℕ}
+use Prim.Native.Nat.{ℕ, zero, suc}
+use lib.Dec.{eqb, leb}
 use Rattle.answers.specs.declared.Answer.{Answer}
 use Rattle.answers.specs.declared.Value.{Value}
 use Rattle.answers.specs.declared.Value.the-variants.{Ok, True, False, Error, Undefined, Pid, Grouped, Nodes, Listed}
@@ -27,6 +31,34 @@ number CallerOutside = 14
 number GroupTaken = 15
 number GroupsFull = 16
 number RunShort = 17
+
+-- the reasons in the order in which they are tested; Done, where no test holds, stands first
+abbrev pub order : List Reason
+order =
+    Done ∷ TableLength ∷ RosterSize ∷ Unsound ∷ CallerUnknown ∷ GroupNameRange ∷ NameZero ∷ NodeUnknown ∷ GroupUnknown ∷ NotMember
+    ∷ NameTaken ∷ PidTaken ∷ NotRegistered ∷ NamespaceFull ∷ CallerOutside ∷ GroupTaken ∷ GroupsFull ∷ RunShort ∷ []
+
+-- how many reasons of the list stand before r
+abbrev pub before : Reason → List Reason → ℕ
+before r [] = zero
+before r (q ∷ qs) = cond (eqb (number q) (number r)) zero (suc (before r qs))
+
+-- the rank of a reason: of two that hold, the one of lower rank is given
+abbrev pub rank : Reason → ℕ
+rank r = before r order
+
+-- whether r is one of these reasons
+abbrev pub among : Reason → List Reason → Bool
+among r [] = false
+among r (q ∷ qs) = eqb (number q) (number r) || among r qs
+
+-- whether a call is refused under a reason: under all but 0
+abbrev pub refuses : Reason → Bool
+refuses r = not (among r (Done ∷ []))
+
+-- whether a reason is tested after the inputs of a command: GroupUnknown is the first of these
+abbrev pub after-inputs : Reason → Bool
+after-inputs r = leb (rank GroupUnknown) (rank r)
 
 -- the place of a value's output word, from 1
 abbrev pub kind : Value → ℕ
@@ -67,3 +99,7 @@ numbers (Listed k) = k ∷ []
 -- a value and a reason as an answer
 abbrev pub answer-of : Value → Reason → Answer
 answer-of v r = record { value = v; reason = r }
+
+-- the answer is a refusal
+abbrev pub Refused : Answer → Type 0
+Refused a = refuses (a .reason) ≡ true

@@ -14,20 +14,20 @@ use borrow.Author.Tests.{eq-eqb, ne-eqb, le-leb, lt-leb}
 use Rattle.nodes.specs.Bools.{by-lt, by-eq}
 use Rattle.semantics.specs.Ranges.{held}
 use Rattle.published.specs.Published.{Map, of-some}
-use Rattle.published.specs.Seen.{count, runs}
-use Rattle.published.specs.Concatenated.{length-runs, in-turn, count-runs}
+use Rattle.published.specs.Seen.{how-many, chained}
+use Rattle.published.specs.Concatenated.{length-chained, in-turn, count-chained}
 use Rattle.published.specs.GroupsSeen.{on-some}
 
 module _ {A B : Type 0} (make : ℕ → A → B) (m : Map A) where
   -- what m has at the n numbers from k on
   abbrev pub gather : ℕ → ℕ → List B
-  gather n k = runs n k (λ s. of-some [] (λ a. make s a ∷ []) (m s))
+  gather n k = chained n k (λ s. of-some [] (λ a. make s a ∷ []) (m s))
 
   -- what holds from the end downwards, one number at a time
   pub gather-ind : (P : ℕ → List B → Type 0) (end : ℕ) → P end []
       → ((k : ℕ) (l : List B) → m k ≡ none → P (suc k) l → P k l)
       → ((k : ℕ) (a : A) (l : List B) → m k ≡ some a → P (suc k) l → P k (make k a ∷ l)) → (n k : ℕ) → k + n ≡ end → P k (gather n k)
-  unfolding runs
+  unfolding chained
   gather-ind P end z f g zero k e = subst (λ (j : ℕ). P j []) (sym (sym (add-zero k) ∙ e)) z
   gather-ind P end z f g (suc n) k e = go (m k) refl (gather-ind P end z f g n (suc k) (omega arith))
     where
@@ -35,9 +35,9 @@ module _ {A B : Type 0} (make : ℕ → A → B) (m : Map A) where
       go none q ih = f k (gather n (suc k)) q ih
       go (some a) q ih = g k a (gather n (suc k)) q ih
 
-  pub length-gather : (n : ℕ) → length (gather n 0) ≡ count n (λ s. held (m s))
+  pub length-gather : (n : ℕ) → length (gather n 0) ≡ how-many n (λ s. held (m s))
   length-gather n =
-      length-runs n 0 (λ s. of-some [] (λ a. make s a ∷ []) (m s)) (in-turn (λ s. held (m s))) (λ s. one s (m s)) ∙ sym (count-runs n (λ s. held (m s)))
+      length-chained n 0 (λ s. of-some [] (λ a. make s a ∷ []) (m s)) (in-turn (λ s. held (m s))) (λ s. one s (m s)) ∙ sym (count-chained n (λ s. held (m s)))
     where
       one : (s : ℕ) (o : Option A) → length (of-some [] (λ a. make s a ∷ []) o) ≡ length (cond (held o) (s ∷ []) [])
       one s none = refl
@@ -83,19 +83,19 @@ module _ {A B : Type 0} (make : ℕ → A → B) (m : Map A) where
 
 -- ---- a word for each number
 
-pub length-each : (n k : ℕ) (f : ℕ → ℕ) → length (runs n k (λ i. f i ∷ [])) ≡ n
-unfolding runs
+pub length-each : (n k : ℕ) (f : ℕ → ℕ) → length (chained n k (λ i. f i ∷ [])) ≡ n
+unfolding chained
 length-each zero k f = refl
 length-each (suc n) k f = ap suc (length-each n (suc k) f)
 
-getD-each : (n k i : ℕ) (f : ℕ → ℕ) → i < n → getD (runs n k (λ j. f j ∷ [])) i 0 ≡ f (k + i)
-unfolding runs
+getD-each : (n k i : ℕ) (f : ℕ → ℕ) → i < n → getD (chained n k (λ j. f j ∷ [])) i 0 ≡ f (k + i)
+unfolding chained
 getD-each zero k i f l = absurd (omega arith)
 getD-each (suc n) k zero f l = ap f (sym (add-zero k))
 getD-each (suc n) k (suc i) f l = getD-each n (suc k) i f (omega arith) ∙ ap f (suc-add k i ∙ sym (add-suc k i))
 
-pub at-each : (n : ℕ) (f : ℕ → ℕ) → ((i : ℕ) → n ≤ i → f i ≡ 0) → (i : ℕ) → getD (runs n 0 (λ j. f j ∷ [])) i 0 ≡ f i
+pub at-each : (n : ℕ) (f : ℕ → ℕ) → ((i : ℕ) → n ≤ i → f i ≡ 0) → (i : ℕ) → getD (chained n 0 (λ j. f j ∷ [])) i 0 ≡ f i
 at-each n f h i = ⊎-elim
     (λ (l : i < n). getD-each n 0 i f l ∙ ap f (zero-add i))
-    (λ (l : n ≤ i). List·getD-eq-default (runs n 0 (λ j. f j ∷ [])) 0 (omega (arith, length-each n 0 f)) ∙ sym (h i l))
+    (λ (l : n ≤ i). List·getD-eq-default (chained n 0 (λ j. f j ∷ [])) 0 (omega (arith, length-each n 0 f)) ∙ sym (h i l))
     (by-lt i n)

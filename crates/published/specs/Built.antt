@@ -25,7 +25,7 @@ use Rattle.semantics.specs.FreeGroupsOfNodes.{has-free-nodes}
 use Rattle.semantics.specs.RoundTrip.{round-trip}
 use Rattle.semantics.specs.Agree.{regular-test, sound-iff}
 use Rattle.published.specs.Published.{Set, of-some, SGroup, Namespace, Node, Published, those, IsSGroupNode}
-use Rattle.published.specs.Seen.{seen, names-seen, published, word, runs, seen-table}
+use Rattle.published.specs.Seen.{seen, names-seen, published, set-word, chained, seen-table}
 use Rattle.published.specs.WellFormed.{connected, free, Fair-namespace, WellFormed}
 use Rattle.published.specs.SomeBelow.{any-case}
 use Rattle.published.specs.Concatenated.{has-word, word-lt, word-has}
@@ -100,21 +100,21 @@ module _ (size : ℕ) (ns : Namespace) (fair : Fair-namespace size ns) where
 
 -- the s_group of a name
 make : ℕ → ℕ → SGroup → Group
-make size s g = record { name = s; members = word size (g .nodes); names = entries-of (g .namespace) }
+make size s g = record { name = s; members = set-word size (g .nodes); names = entries-of (g .namespace) }
 
 -- a set without members is zero
-word-none : (n : ℕ) (a : Set) → ((i : ℕ) → a i ≡ false) → word n a ≡ 0
-word-none n a h = has-ext (word n a) 0 (λ i. has-word n a i ∙ rw (h i) (and-false (ltb i n)) ∙ sym (has-none i))
+word-none : (n : ℕ) (a : Set) → ((i : ℕ) → a i ≡ false) → set-word n a ≡ 0
+word-none n a h = has-ext (set-word n a) 0 (λ i. has-word n a i ∙ rw (h i) (and-false (ltb i n)) ∙ sym (has-none i))
 
 module _ (X : Published) (wf : WellFormed X) where
   pub built : State
   built =
       record {
         size = wf .size;
-        hidden = word (wf .size) (those (λ nd. nd .hidden) (X .nds));
+        hidden = set-word (wf .size) (those (λ nd. nd .hidden) (X .nds));
         groups = gather (make (wf .size)) (X .grs) group-names 0;
-        links = runs node-limit 0 (λ i. word (wf .size) (λ j. connected i j X) ∷ []);
-        free = runs node-limit 0 (λ i. word (wf .size) (X .fgs i) ∷ []);
+        links = chained node-limit 0 (λ i. set-word (wf .size) (λ j. connected i j X) ∷ []);
+        free = chained node-limit 0 (λ i. set-word (wf .size) (X .fgs i) ∷ []);
       }
 
   -- ---- connections and free groups
@@ -137,14 +137,14 @@ module _ (X : Published) (wf : WellFormed X) where
   has-links : (i : ℕ) → has (getD (built .links) i 0) ≡ (λ j. connected i j X)
   unfolding built
   has-links i =
-      ap has (at-each node-limit (λ k. word (wf .size) (λ j. connected k j X))
+      ap has (at-each node-limit (λ k. set-word (wf .size) (λ j. connected k j X))
       (λ k l. word-none (wf .size) (λ j. connected k j X) (λ j. unless (connected k j X) (λ e. omega (arith, linked-in k j e .0, wf .size-range .1)))) i)
       ∙ word-has (wf .size) (λ j. connected i j X) (λ j h. linked-in i j h .1)
 
   has-free : (i : ℕ) → has (getD (built .free) i 0) ≡ X .fgs i
   unfolding built
   has-free i =
-      ap has (at-each node-limit (λ k. word (wf .size) (X .fgs k))
+      ap has (at-each node-limit (λ k. set-word (wf .size) (X .fgs k))
       (λ k l. word-none (wf .size) (X .fgs k) (λ j. unless (X .fgs k j) (λ e. omega (arith, free-in k j e .0, wf .size-range .1)))) i)
       ∙ word-has (wf .size) (X .fgs i) (λ j h. free-in i j h .1)
 
@@ -206,7 +206,7 @@ module _ (X : Published) (wf : WellFormed X) where
   unfolding make
   met-make s g e i j a b n =
       let fair = wf .groups s g e in
-      let in-g : has (word (wf .size) (g .nodes)) ≡ g .nodes = word-has (wf .size) (g .nodes) (fair .on-roster) in
+      let in-g : has (set-word (wf .size) (g .nodes)) ≡ g .nodes = word-has (wf .size) (g .nodes) (fair .on-roster) in
       ap (λ (c : Set). c j) (has-links i) ∙ fair .met i j (ap (λ (c : Set). c i) (sym in-g) ∙ a) (ap (λ (c : Set). c j) (sym in-g) ∙ b) n
 
   all-regular : Every (Regular-group names-per-group (wf .size)) (built .groups)
@@ -240,8 +240,8 @@ module _ (X : Published) (wf : WellFormed X) where
         groups-few = omega (arith, length-gather (make (wf .size)) (X .grs) group-names, wf .few-groups);
         rising = all-rising;
         each = all-regular;
-        links-long = length-each node-limit 0 (λ i. word (wf .size) (λ j. connected i j X));
-        free-long = length-each node-limit 0 (λ i. word (wf .size) (X .fgs i));
+        links-long = length-each node-limit 0 (λ i. set-word (wf .size) (λ j. connected i j X));
+        free-long = length-each node-limit 0 (λ i. set-word (wf .size) (X .fgs i));
         within = λ i j h. linked-in i j (ap (λ (a : Set). a j) (sym (has-links i)) ∙ h) .1;
         met = every-group (Met (built .links)) met-make;
         wires = record {

@@ -17,12 +17,12 @@ use Rattle.nodes.specs.Digits.{bit-lt}
 use Rattle.nodes.specs.Counts.{tally, count-tally}
 use Rattle.nodes.specs.Sets as Nodes
 use Rattle.published.specs.Published.{Set}
-use Rattle.published.specs.Seen.{word, count, runs}
+use Rattle.published.specs.Seen.{set-word, how-many, chained}
 
-pub runs-none : {A : Type 0} (n k : ℕ) → runs {A = A} n k (λ j. []) ≡ []
-unfolding runs
-runs-none zero k = refl
-runs-none (suc n) k = runs-none n (suc k)
+pub chained-none : {A : Type 0} (n k : ℕ) → chained {A = A} n k (λ j. []) ≡ []
+unfolding chained
+chained-none zero k = refl
+chained-none (suc n) k = chained-none n (suc k)
 
 -- ---- a list with ascending keys
 
@@ -60,23 +60,23 @@ module _ {A B : Type 0} (key : A → ℕ) (h : A → List B) where
   unfolding run-at
   run-past x xs k n = rw (ne-eqb (key x) k n)
 
-  pub runs-keyed : (n b m : ℕ) (xs : List A) (f : ℕ → List B) → m ≡ b + n → Between b m xs → ((k : ℕ) → b ≤ k → f k ≡ run-at k xs)
-      → runs n b f ≡ run-all xs
-  unfolding runs run-all Between
-  runs-keyed zero b m [] f e u same = refl
-  runs-keyed zero b m (x ∷ xs) f e u same = absurd (omega (arith, u .0, u .1))
-  runs-keyed (suc n) b m [] f e u same =
-      ap₂ _++_ (same b (omega arith) ∙ run-low b (suc b) m [] (omega arith) tt) (runs-keyed n (suc b) m [] f (omega arith) tt (λ k l. same k (omega arith)))
-  runs-keyed (suc n) b m (x ∷ xs) f e u same =
+  pub chained-keyed : (n b m : ℕ) (xs : List A) (f : ℕ → List B) → m ≡ b + n → Between b m xs → ((k : ℕ) → b ≤ k → f k ≡ run-at k xs)
+      → chained n b f ≡ run-all xs
+  unfolding chained run-all Between
+  chained-keyed zero b m [] f e u same = refl
+  chained-keyed zero b m (x ∷ xs) f e u same = absurd (omega (arith, u .0, u .1))
+  chained-keyed (suc n) b m [] f e u same =
+      ap₂ _++_ (same b (omega arith) ∙ run-low b (suc b) m [] (omega arith) tt) (chained-keyed n (suc b) m [] f (omega arith) tt (λ k l. same k (omega arith)))
+  chained-keyed (suc n) b m (x ∷ xs) f e u same =
       ⊎-elim
       (λ (p : key x ≡ b).
       ap₂ _++_ (same b (omega arith) ∙ run-here x xs b p)
-      (runs-keyed n (suc b) m xs f (omega arith) (subst (λ (k : ℕ). Between (suc k) m xs) p (u .2))
+      (chained-keyed n (suc b) m xs f (omega arith) (subst (λ (k : ℕ). Between (suc k) m xs) p (u .2))
       (λ k l. same k (omega arith) ∙ run-past x xs k (λ q. omega arith))))
       (λ (p : key x ≡ b → ⊥).
       let up : Between (suc b) m (x ∷ xs) = (omega (arith, u .0), u .1, u .2) in
       ap₂ _++_ (same b (omega arith) ∙ run-low b (suc b) m (x ∷ xs) (omega arith) up)
-      (runs-keyed n (suc b) m (x ∷ xs) f (omega arith) up (λ k l. same k (omega arith))))
+      (chained-keyed n (suc b) m (x ∷ xs) f (omega arith) up (λ k l. same k (omega arith))))
       (by-eq (key x) b)
 
 -- one element each: the list itself
@@ -87,40 +87,40 @@ run-all-one key (x ∷ xs) = ap (λ (l : List _). x ∷ l) (run-all-one key xs)
 
 -- ---- how many
 
-pub length-runs : {A B : Type 0} (n k : ℕ) (f : ℕ → List A) (g : ℕ → List B) → ((j : ℕ) → length (f j) ≡ length (g j))
-    → length (runs n k f) ≡ length (runs n k g)
-unfolding runs
-length-runs zero k f g h = refl
-length-runs (suc n) k f g h =
-    omega (arith, length-append (f k) (runs n (suc k) f), length-append (g k) (runs n (suc k) g), h k, length-runs n (suc k) f g h)
+pub length-chained : {A B : Type 0} (n k : ℕ) (f : ℕ → List A) (g : ℕ → List B) → ((j : ℕ) → length (f j) ≡ length (g j))
+    → length (chained n k f) ≡ length (chained n k g)
+unfolding chained
+length-chained zero k f g h = refl
+length-chained (suc n) k f g h =
+    omega (arith, length-append (f k) (chained n (suc k) f), length-append (g k) (chained n (suc k) g), h k, length-chained n (suc k) f g h)
 
 -- the numbers of a set, one by one
 abbrev pub in-turn : Set → ℕ → List ℕ
 in-turn a k = cond (a k) (k ∷ []) []
 
-count-from : (n k : ℕ) (a : Set) → count (k + n) a ≡ count k a + length (runs n k (in-turn a))
-unfolding runs count
+count-from : (n k : ℕ) (a : Set) → how-many (k + n) a ≡ how-many k a + length (chained n k (in-turn a))
+unfolding chained how-many
 count-from zero k a = rw (add-zero k) (omega arith)
-count-from (suc n) k a = ap (λ (j : ℕ). count j a) (add-suc k n ∙ sym (suc-add k n)) ∙ count-from n (suc k) a ∙ go (a k)
+count-from (suc n) k a = ap (λ (j : ℕ). how-many j a) (add-suc k n ∙ sym (suc-add k n)) ∙ count-from n (suc k) a ∙ go (a k)
   where
-    go : (x : Bool) → cond x (suc (count k a)) (count k a) + length (runs n (suc k) (in-turn a))
-        ≡ count k a + length (cond x (k ∷ []) [] ++ runs n (suc k) (in-turn a))
+    go : (x : Bool) → cond x (suc (how-many k a)) (how-many k a) + length (chained n (suc k) (in-turn a))
+        ≡ how-many k a + length (cond x (k ∷ []) [] ++ chained n (suc k) (in-turn a))
     go true = omega arith
     go false = refl
 
-pub count-runs : (n : ℕ) (a : Set) → count n a ≡ length (runs n 0 (in-turn a))
-unfolding count
-count-runs n a = ap (λ (j : ℕ). count j a) (sym (zero-add n)) ∙ count-from n 0 a ∙ zero-add _
+pub count-chained : (n : ℕ) (a : Set) → how-many n a ≡ length (chained n 0 (in-turn a))
+unfolding how-many
+count-chained n a = ap (λ (j : ℕ). how-many j a) (sym (zero-add n)) ∙ count-from n 0 a ∙ zero-add _
 
 -- ---- the word of a set
 
-pub has-word : (n : ℕ) (a : Set) (i : ℕ) → has (word n a) i ≡ ltb i n && a i
-unfolding word
+pub has-word : (n : ℕ) (a : Set) (i : ℕ) → has (set-word n a) i ≡ ltb i n && a i
+unfolding set-word
 has-word zero a i = has-none i ∙ sym (ap (λ (x : Bool). x && a i) (le-ltb i 0 (omega arith)))
 has-word (suc n) a i = with-last (a n) ∙ ap (λ (x : Bool). (a n && eqb n i) || x) (has-word n a i) ∙ last (by-eq n i) (by-lt i n)
   where
-    with-last : (x : Bool) → has (cond x (Nodes.union (single n) (word n a)) (word n a)) i ≡ (x && eqb n i) || has (word n a) i
-    with-last true = has-union (single n) (word n a) i ∙ ap (λ (x : Bool). x || has (word n a) i) (has-single n i)
+    with-last : (x : Bool) → has (cond x (Nodes.union (single n) (set-word n a)) (set-word n a)) i ≡ (x && eqb n i) || has (set-word n a) i
+    with-last true = has-union (single n) (set-word n a) i ∙ ap (λ (x : Bool). x || has (set-word n a) i) (has-single n i)
     with-last false = refl
 
     last : (n ≡ i) ⊎ (n ≡ i → ⊥) → (i < n) ⊎ (n ≤ i) → (a n && eqb n i) || (ltb i n && a i) ≡ ltb i (suc n) && a i
@@ -129,20 +129,20 @@ has-word (suc n) a i = with-last (a n) ∙ ap (λ (x : Bool). (a n && eqb n i) |
     last (inr p) (inl l) = rw (ne-eqb n i p, lt-ltb i n l, lt-ltb i (suc n) (omega arith), and-false (a n))
     last (inr p) (inr l) = rw (ne-eqb n i p, le-ltb i n l, le-ltb i (suc n) (omega arith), and-false (a n))
 
-pub word-lt : (n : ℕ) (a : Set) → word n a < 2 ^ n
-word-lt n a = below-pow (word n a) n (λ i h. ltb-true i n (and-eq-true-iff (ltb i n) (a i) .0 (sym (has-word n a i) ∙ h) .0))
+pub word-lt : (n : ℕ) (a : Set) → set-word n a < 2 ^ n
+word-lt n a = below-pow (set-word n a) n (λ i h. ltb-true i n (and-eq-true-iff (ltb i n) (a i) .0 (sym (has-word n a i) ∙ h) .0))
 
 -- the word of a set whose members are below n has these members
-pub word-has : (n : ℕ) (a : Set) → ((i : ℕ) → a i ≡ true → i < n) → has (word n a) ≡ a
+pub word-has : (n : ℕ) (a : Set) → ((i : ℕ) → a i ≡ true → i < n) → has (set-word n a) ≡ a
 word-has n a h = fun-ext (λ i. has-word n a i ∙ and-comm (ltb i n) (a i) ∙ and-follows (a i) (ltb i n) (λ e. lt-ltb i n (h i e)))
 
 -- the word of a word's members is the word
-pub word-of : (n w : ℕ) → w < 2 ^ n → word n (has w) ≡ w
-word-of n w small = has-ext (word n (has w)) w (λ i. ap (λ (a : Set). a i) (word-has n (has w) (λ j. has-below w n j small)))
+pub word-of : (n w : ℕ) → w < 2 ^ n → set-word n (has w) ≡ w
+word-of n w small = has-ext (set-word n (has w)) w (λ i. ap (λ (a : Set). a i) (word-has n (has w) (λ j. has-below w n j small)))
 
 -- the members of a word are as many as it has
-pub count-has : (n w : ℕ) → w < 2 ^ n → count n (has w) ≡ Nodes.count w
-unfolding count tally
+pub count-has : (n w : ℕ) → w < 2 ^ n → how-many n (has w) ≡ Nodes.count w
+unfolding how-many tally
 count-has n w small = go n ∙ sym (count-tally n w small)
   where
     one : (m d : ℕ) → d < 2 → cond (eqb d 1) (suc m) m ≡ m + d
@@ -150,6 +150,6 @@ count-has n w small = go n ∙ sym (count-tally n w small)
     one m (suc zero) h = omega arith
     one m (suc (suc d)) h = absurd (omega arith)
 
-    go : (n : ℕ) → count n (has w) ≡ tally n w
+    go : (n : ℕ) → how-many n (has w) ≡ tally n w
     go zero = refl
-    go (suc n) = one (count n (has w)) (Nodes.bit w n) (bit-lt w n) ∙ ap (λ (m : ℕ). m + Nodes.bit w n) (go n)
+    go (suc n) = one (how-many n (has w)) (Nodes.bit w n) (bit-lt w n) ∙ ap (λ (m : ℕ). m + Nodes.bit w n) (go n)

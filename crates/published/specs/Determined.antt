@@ -23,7 +23,7 @@ use Rattle.semantics.specs.Groups.{found-name}
 use Rattle.semantics.specs.Changed.{regular-found}
 use Rattle.semantics.specs.Agree.{test-regular, same-state-same-table, sound-iff}
 use Rattle.published.specs.Published.{of-some, SGroup, Node, Published, those}
-use Rattle.published.specs.Seen.{seen, published, runs, seen-table}
+use Rattle.published.specs.Seen.{seen, published, chained, seen-table}
 use Rattle.published.specs.GroupsSeen.{on-some, groups-seen, node-seen, nothing-there, those-seen, gathered}
 
 module _ {cap : ℕ} (a b : State) (v : Regular cap a) (w : Regular cap b) (e : published a ≡ published b) where
@@ -89,7 +89,7 @@ module _ {cap : ℕ} (a b : State) (v : Regular cap a) (w : Regular cap b) (e : 
   same-groups : a .groups ≡ b .groups
   same-groups =
       sym (gathered cap (a .size) (a .groups) (v .rising) (v .each))
-      ∙ ap (runs group-names 0) (fun-ext (λ s. ap (of-some [] (λ g. g ∷ [])) (same-found s)))
+      ∙ ap (chained group-names 0) (fun-ext (λ s. ap (of-some [] (λ g. g ∷ [])) (same-found s)))
       ∙ gathered cap (b .size) (b .groups) (w .rising) (w .each)
 
   pub state-determined : a ≡ b

@@ -20,9 +20,9 @@ use Rattle.semantics.specs.Regular.{Every, Rising, Regular-group}
 use Rattle.semantics.specs.Truth.{or-cases}
 use Rattle.semantics.specs.Groups.{found-name}
 use Rattle.published.specs.Published.{Set, Map, of-some, any, with-at, less-at, SGroup, Node, FreeGroups, those, IsSGroupNode}
-use Rattle.published.specs.Seen.{seen, names-seen, count, runs}
+use Rattle.published.specs.Seen.{seen, names-seen, how-many, chained}
 use Rattle.published.specs.SomeBelow.{any-hit, any-is}
-use Rattle.published.specs.Concatenated.{run-at, run-all, Between, from-zero, runs-keyed, run-all-one, length-runs, in-turn, count-runs}
+use Rattle.published.specs.Concatenated.{run-at, run-all, Between, from-zero, chained-keyed, run-all-one, length-chained, in-turn, count-chained}
 
 -- ---- the parts of a published state
 
@@ -171,19 +171,19 @@ run-found h s (g ∷ gs) = go (eqb (g .name) s) (run-found h s gs)
 
 module _ (cap N : ℕ) (gs : List Group) (rising : Rising 0 gs) (each : Every (Regular-group cap N) gs) where
   -- a run for each s_group, by name
-  pub runs-found : {B : Type 0} (h : Group → List B) → runs group-names 0 (λ s. of-some [] h (find s gs)) ≡ run-all (λ g. g .name) h gs
-  runs-found h =
-      runs-keyed (λ g. g .name) h group-names 0 group-names gs _ refl (from-zero (λ g. g .name) h 1 group-names gs (between-names cap N 0 gs rising each h))
+  pub chained-found : {B : Type 0} (h : Group → List B) → chained group-names 0 (λ s. of-some [] h (find s gs)) ≡ run-all (λ g. g .name) h gs
+  chained-found h =
+      chained-keyed (λ g. g .name) h group-names 0 group-names gs _ refl (from-zero (λ g. g .name) h 1 group-names gs (between-names cap N 0 gs rising each h))
       (λ s l. run-found h s gs)
 
   -- the s_groups are those that are found
-  pub gathered : runs group-names 0 (λ s. of-some [] (λ g. g ∷ []) (find s gs)) ≡ gs
-  gathered = runs-found (λ g. g ∷ []) ∙ run-all-one (λ g. g .name) gs
+  pub gathered : chained group-names 0 (λ s. of-some [] (λ g. g ∷ []) (find s gs)) ≡ gs
+  gathered = chained-found (λ g. g ∷ []) ∙ run-all-one (λ g. g .name) gs
 
-  pub count-groups : count group-names (λ s. held (groups-seen gs s)) ≡ length gs
+  pub count-groups : how-many group-names (λ s. held (groups-seen gs s)) ≡ length gs
   count-groups =
-      count-runs group-names (λ s. held (groups-seen gs s))
-      ∙ length-runs group-names 0 (in-turn (λ s. held (groups-seen gs s))) (λ s. of-some [] (λ g. g ∷ []) (find s gs)) (λ s. one (find s gs) s)
+      count-chained group-names (λ s. held (groups-seen gs s))
+      ∙ length-chained group-names 0 (in-turn (λ s. held (groups-seen gs s))) (λ s. of-some [] (λ g. g ∷ []) (find s gs)) (λ s. one (find s gs) s)
       ∙ ap length gathered
     where
       one : (o : Option Group) (s : ℕ) → length (cond (held (on-some seen o)) (s ∷ []) []) ≡ length (of-some [] (λ g. g ∷ []) o)

@@ -14,7 +14,7 @@ use Rattle.nodes.specs.Bools.{by-eq}
 use Rattle.entries.specs.Entries.{half-word}
 use Rattle.semantics.specs.Sizes.{group-names}
 use Rattle.published.specs.Published.{Set, Map, of-some}
-use Rattle.published.specs.Seen.{word, runs, name-words, group-words}
+use Rattle.published.specs.Seen.{set-word, chained, name-words, group-words}
 use Rattle.published.specs.Concatenated.{in-turn}
 use Rattle.published.specs.GroupsSeen.{on-some}
 
@@ -34,32 +34,32 @@ ascends-lower : (b : ℕ) (l : List ℕ) → Ascends (suc b) l → Ascends b l
 ascends-lower b [] u = tt
 ascends-lower b (x ∷ xs) u = (omega (arith, u .0), u .1)
 
-ascends-turn : (n k : ℕ) (a : Set) → Ascends k (runs n k (in-turn a))
-unfolding runs
+ascends-turn : (n k : ℕ) (a : Set) → Ascends k (chained n k (in-turn a))
+unfolding chained
 ascends-turn zero k a = tt
 ascends-turn (suc n) k a = go (a k) (ascends-turn n (suc k) a)
   where
-    go : (x : Bool) → Ascends (suc k) (runs n (suc k) (in-turn a)) → Ascends k (cond x (k ∷ []) [] ++ runs n (suc k) (in-turn a))
+    go : (x : Bool) → Ascends (suc k) (chained n (suc k) (in-turn a)) → Ascends k (cond x (k ∷ []) [] ++ chained n (suc k) (in-turn a))
     go true u = (omega arith, u)
-    go false u = ascends-lower k (runs n (suc k) (in-turn a)) u
+    go false u = ascends-lower k (chained n (suc k) (in-turn a)) u
 
 elem-low : (w b : ℕ) (l : List ℕ) → w < b → Ascends b l → elem w l ≡ false
 elem-low w b [] h u = refl
 elem-low w b (x ∷ xs) h u = rw (ne-eqb x w (λ e. omega (arith, u .0))) (elem-low w (suc x) xs (omega (arith, u .0)) (u .1))
 
-elem-turn : (n k : ℕ) (a : Set) (w : ℕ) → k ≤ w → w < k + n → elem w (runs n k (in-turn a)) ≡ a w
-unfolding runs
+elem-turn : (n k : ℕ) (a : Set) (w : ℕ) → k ≤ w → w < k + n → elem w (chained n k (in-turn a)) ≡ a w
+unfolding chained
 elem-turn zero k a w l m = absurd (omega arith)
 elem-turn (suc n) k a w l m = ⊎-elim
     (λ (e : k ≡ w). here e (a k) (ap a (sym e)))
     (λ (e : k ≡ w → ⊥). past e (a k) ∙ elem-turn n (suc k) a w (omega arith) (omega arith))
     (by-eq k w)
   where
-    here : k ≡ w → (x : Bool) → a w ≡ x → elem w (cond x (k ∷ []) [] ++ runs n (suc k) (in-turn a)) ≡ a w
+    here : k ≡ w → (x : Bool) → a w ≡ x → elem w (cond x (k ∷ []) [] ++ chained n (suc k) (in-turn a)) ≡ a w
     here e true q = rw (eq-eqb k w e) (sym q)
-    here e false q = elem-low w (suc k) (runs n (suc k) (in-turn a)) (omega arith) (ascends-turn n (suc k) a) ∙ sym q
+    here e false q = elem-low w (suc k) (chained n (suc k) (in-turn a)) (omega arith) (ascends-turn n (suc k) a) ∙ sym q
 
-    past : (k ≡ w → ⊥) → (x : Bool) → elem w (cond x (k ∷ []) [] ++ runs n (suc k) (in-turn a)) ≡ elem w (runs n (suc k) (in-turn a))
+    past : (k ≡ w → ⊥) → (x : Bool) → elem w (cond x (k ∷ []) [] ++ chained n (suc k) (in-turn a)) ≡ elem w (chained n (suc k) (in-turn a))
     past e true = rw (ne-eqb k w e)
     past e false = refl
 
@@ -97,20 +97,20 @@ pair-low s b (x ∷ m ∷ ws) h u = rw (ne-eqb x s (λ e. omega (arith, u .0))) 
 
 module _ (snis : Map Set) where
   abbrev two : ℕ → List ℕ
-  two s = of-some [] (λ nis. s ∷ word node-limit nis ∷ []) (snis s)
+  two s = of-some [] (λ nis. s ∷ set-word node-limit nis ∷ []) (snis s)
 
-  ascends-two : (n k : ℕ) → Pairs-ascend k (runs n k two)
-  unfolding runs
+  ascends-two : (n k : ℕ) → Pairs-ascend k (chained n k two)
+  unfolding chained
   ascends-two zero k = tt
   ascends-two (suc n) k = go (snis k) (ascends-two n (suc k))
     where
-      go : (o : Option Set) → Pairs-ascend (suc k) (runs n (suc k) two)
-          → Pairs-ascend k (of-some [] (λ nis. k ∷ word node-limit nis ∷ []) o ++ runs n (suc k) two)
-      go none u = pairs-lower k (runs n (suc k) two) u
+      go : (o : Option Set) → Pairs-ascend (suc k) (chained n (suc k) two)
+          → Pairs-ascend k (of-some [] (λ nis. k ∷ set-word node-limit nis ∷ []) o ++ chained n (suc k) two)
+      go none u = pairs-lower k (chained n (suc k) two) u
       go (some nis) u = (omega arith, u)
 
-  pair-two : (n k s : ℕ) → k ≤ s → s < k + n → pair-at s (runs n k two) ≡ on-some (word node-limit) (snis s)
-  unfolding runs
+  pair-two : (n k s : ℕ) → k ≤ s → s < k + n → pair-at s (chained n k two) ≡ on-some (set-word node-limit) (snis s)
+  unfolding chained
   pair-two zero k s l m = absurd (omega arith)
   pair-two (suc n) k s l m = ⊎-elim
       (λ (e : k ≡ s). here e (snis k) (ap snis (sym e)))
@@ -118,17 +118,17 @@ module _ (snis : Map Set) where
       (by-eq k s)
     where
       here : k ≡ s → (o : Option Set) → snis s ≡ o
-          → pair-at s (of-some [] (λ nis. k ∷ word node-limit nis ∷ []) o ++ runs n (suc k) two) ≡ on-some (word node-limit) (snis s)
-      here e none q = pair-low s (suc k) (runs n (suc k) two) (omega arith) (ascends-two n (suc k)) ∙ sym (ap (on-some (word node-limit)) q)
-      here e (some nis) q = rw (eq-eqb k s e) (sym (ap (on-some (word node-limit)) q))
+          → pair-at s (of-some [] (λ nis. k ∷ set-word node-limit nis ∷ []) o ++ chained n (suc k) two) ≡ on-some (set-word node-limit) (snis s)
+      here e none q = pair-low s (suc k) (chained n (suc k) two) (omega arith) (ascends-two n (suc k)) ∙ sym (ap (on-some (set-word node-limit)) q)
+      here e (some nis) q = rw (eq-eqb k s e) (sym (ap (on-some (set-word node-limit)) q))
 
-      past : (k ≡ s → ⊥) → (o : Option Set) → pair-at s (of-some [] (λ nis. k ∷ word node-limit nis ∷ []) o ++ runs n (suc k) two)
-          ≡ pair-at s (runs n (suc k) two)
+      past : (k ≡ s → ⊥) → (o : Option Set) → pair-at s (of-some [] (λ nis. k ∷ set-word node-limit nis ∷ []) o ++ chained n (suc k) two)
+          ≡ pair-at s (chained n (suc k) two)
       past e none = refl
       past e (some nis) = rw (ne-eqb k s e)
 
   pub groups-ascend : Pairs-ascend 0 (group-words snis)
   groups-ascend = ascends-two group-names 0
 
-  pub groups-listed : (s : ℕ) → s < group-names → pair-at s (group-words snis) ≡ on-some (word node-limit) (snis s)
+  pub groups-listed : (s : ℕ) → s < group-names → pair-at s (group-words snis) ≡ on-some (set-word node-limit) (snis s)
   groups-listed s l = pair-two group-names 0 s (omega arith) (omega arith)

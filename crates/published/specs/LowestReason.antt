@@ -1,55 +1,85 @@
--- The reason that is given is the lowest that holds: the tests of each command, and of opening, ascend by 01's numbers. Assumes nothing.
+-- The reason that is given is the lowest that holds: the tests of each command, and of opening, ascend by rank, which is the order of 01's numbers.
+-- Assumes nothing.
 use mathlib.Core.Path.{_≡_, refl, sym, ap, _∙_}
-use mathlib.Core.Logic.{_⊎_, inl, inr}
+use mathlib.Core.Logic.{_↔_, _⊎_, inl, inr}
 use mathlib.Core.Bool.{Bool, true, false, cond, false≢true, and-eq-true-iff}
 use mathlib.Core.List.{List, [], _∷_, map}
 use Prim.Native.Nat.{ℕ, _≤_, _<_}
 use native.Mathlib.Omega.{arith}
 use lib.Dec.{ltb}
 use borrow.Author.Tests.{ltb-true}
-use Rattle.answers.specs.Answers.{number}
+use Rattle.answers.specs.Answers.{number, rank}
 use Rattle.semantics.specs.Test.{ascending}
 use Rattle.commands.specs.declared.Command.{Command}
 use Rattle.commands.specs.declared.Command.the-variants.{RegisterName, ReRegisterName, UnregisterName, RegisteredNames, WhereisName, WhereisNameAt, Send, SendName, SendAt, NewSGroup, AddNodes, RemoveNodes, DeleteSGroup, OwnNodes, OwnSGroups}
 use Rattle.answers.specs.declared.Reason.{Reason}
-use Rattle.answers.specs.declared.Reason.the-variants.{Done}
+use Rattle.answers.specs.declared.Reason.the-variants.{Done, TableLength, RosterSize, Unsound, CallerUnknown, GroupNameRange, NameZero, NodeUnknown, GroupUnknown, NotMember, NameTaken, PidTaken, NotRegistered, NamespaceFull, CallerOutside, GroupTaken, GroupsFull, RunShort}
 use Rattle.published.specs.Published.{Set, Published}
 use Rattle.published.specs.Refusals.{Test, first, tests, opening-tests}
+
+-- ---- ranks
+
+-- every reason of 01 has its number as its rank
+rank-is : (r : Reason) → rank r ≡ number r
+rank-is Done = refl
+rank-is TableLength = refl
+rank-is RosterSize = refl
+rank-is Unsound = refl
+rank-is CallerUnknown = refl
+rank-is GroupNameRange = refl
+rank-is NameZero = refl
+rank-is NodeUnknown = refl
+rank-is GroupUnknown = refl
+rank-is NotMember = refl
+rank-is NameTaken = refl
+rank-is PidTaken = refl
+rank-is NotRegistered = refl
+rank-is NamespaceFull = refl
+rank-is CallerOutside = refl
+rank-is GroupTaken = refl
+rank-is GroupsFull = refl
+rank-is RunShort = refl
+
+-- by rank is by number, as 01 has it
+pub by-number : (r q : Reason) → (rank r < rank q) ↔ (number r < number q)
+by-number r q = rw (rank-is r, rank-is q) (λ h. h, λ h. h)
+
+-- ---- the lowest
 
 -- a test of the list
 abbrev pub In : Test → List Test → Type 0
 In t [] = ⊥
 In t (u ∷ us) = (t ≡ u) ⊎ In t us
 
--- the numbers of the reasons
-abbrev pub numbers : List Test → List ℕ
-numbers ts = map (λ t. number (t .reason)) ts
+-- the ranks of the reasons
+abbrev pub ranks : List Test → List ℕ
+ranks ts = map (λ t. rank (t .reason)) ts
 
 -- r is the lowest reason of ts that holds, or Done where none does
 pub record Lowest (ts : List Test) (r : Reason) : Type 0 where
   pub given : ((r ≡ Done) × ((t : Test) → In t ts → t .holds ≡ false)) ⊎ ((t : Test) × In t ts × (t .holds ≡ true) × (r ≡ t .reason))
-  pub least : (t : Test) → In t ts → t .holds ≡ true → number r ≤ number (t .reason)
+  pub least : (t : Test) → In t ts → t .holds ≡ true → rank r ≤ rank (t .reason)
 
-above : (b : ℕ) (ts : List Test) → ascending b (numbers ts) ≡ true → (t : Test) → In t ts → b < number (t .reason)
+above : (b : ℕ) (ts : List Test) → ascending b (ranks ts) ≡ true → (t : Test) → In t ts → b < rank (t .reason)
 above b [] h t i = absurd i
-above b (u ∷ us) h t (inl e) = rw e (ltb-true b (number (u .reason)) (and-eq-true-iff (ltb b (number (u .reason))) _ .0 h .0))
+above b (u ∷ us) h t (inl e) = rw e (ltb-true b (rank (u .reason)) (and-eq-true-iff (ltb b (rank (u .reason))) _ .0 h .0))
 above b (u ∷ us) h t (inr i) =
-    let p = and-eq-true-iff (ltb b (number (u .reason))) _ .0 h in
-    omega (arith, ltb-true b (number (u .reason)) (p .0), above (number (u .reason)) us (p .1) t i)
+    let p = and-eq-true-iff (ltb b (rank (u .reason))) _ .0 h in
+    omega (arith, ltb-true b (rank (u .reason)) (p .0), above (rank (u .reason)) us (p .1) t i)
 
-first-lowest : (b : ℕ) (ts : List Test) → ascending b (numbers ts) ≡ true → Lowest ts (first ts)
+first-lowest : (b : ℕ) (ts : List Test) → ascending b (ranks ts) ≡ true → Lowest ts (first ts)
 first-lowest b [] h = record { given = inl (refl, λ t i. absurd i); least = λ t i. absurd i }
-first-lowest b (u ∷ us) h = go (u .holds) refl (first-lowest (number (u .reason)) us rest)
+first-lowest b (u ∷ us) h = go (u .holds) refl (first-lowest (rank (u .reason)) us rest)
   where
-    rest : ascending (number (u .reason)) (numbers us) ≡ true
-    rest = and-eq-true-iff (ltb b (number (u .reason))) _ .0 h .1
+    rest : ascending (rank (u .reason)) (ranks us) ≡ true
+    rest = and-eq-true-iff (ltb b (rank (u .reason))) _ .0 h .1
 
     go : (x : Bool) → u .holds ≡ x → Lowest us (first us) → Lowest (u ∷ us) (cond x (u .reason) (first us))
     go true e ih = record { given = inr (u, inl refl, e, refl); least = at-least }
       where
-        at-least : (t : Test) → In t (u ∷ us) → t .holds ≡ true → number (u .reason) ≤ number (t .reason)
+        at-least : (t : Test) → In t (u ∷ us) → t .holds ≡ true → rank (u .reason) ≤ rank (t .reason)
         at-least t (inl q) k = rw q (omega arith)
-        at-least t (inr i) k = omega (arith, above (number (u .reason)) us rest t i)
+        at-least t (inr i) k = omega (arith, above (rank (u .reason)) us rest t i)
     go false e ih = record { given = whence (ih .given); least = at-least }
       where
         none : ((t : Test) → In t us → t .holds ≡ false) → (t : Test) → In t (u ∷ us) → t .holds ≡ false
@@ -61,11 +91,11 @@ first-lowest b (u ∷ us) h = go (u .holds) refl (first-lowest (number (u .reaso
         whence (inl p) = inl (p .0, none (p .1))
         whence (inr p) = inr (p .0, inr (p .1), p .2, p .3)
 
-        at-least : (t : Test) → In t (u ∷ us) → t .holds ≡ true → number (first us) ≤ number (t .reason)
+        at-least : (t : Test) → In t (u ∷ us) → t .holds ≡ true → rank (first us) ≤ rank (t .reason)
         at-least t (inl q) k = absurd (false≢true (sym e ∙ ap (λ (v : Test). v .holds) (sym q) ∙ k))
         at-least t (inr i) k = ih .least t i k
 
-pub tests-ascend : (room : ℕ) (c : Command) (ni : ℕ) (X : Published) → ascending 0 (numbers (tests room c ni X)) ≡ true
+pub tests-ascend : (room : ℕ) (c : Command) (ni : ℕ) (X : Published) → ascending 0 (ranks (tests room c ni X)) ≡ true
 unfolding tests
 tests-ascend room (RegisterName s n p) ni X = refl
 tests-ascend room (ReRegisterName s n p) ni X = refl

@@ -19,9 +19,9 @@ use Rattle.semantics.specs.Steps.{name-words}
 use Rattle.semantics.specs.Truth.{or-cases}
 use Rattle.published.specs.Published.{of-some, with-at, less-at, has-pid, OutputNs}
 use Rattle.published.specs.Seen as Seen
-use Rattle.published.specs.Seen.{count, runs}
+use Rattle.published.specs.Seen.{how-many, chained}
 use Rattle.published.specs.SomeBelow.{any-hit, any-is}
-use Rattle.published.specs.Concatenated.{run-at, run-all, Between, from-zero, runs-keyed, run-all-one, length-runs, in-turn, count-runs}
+use Rattle.published.specs.Concatenated.{run-at, run-all, Between, from-zero, chained-keyed, run-all-one, length-chained, in-turn, count-chained}
 
 -- ---- one name
 
@@ -84,16 +84,16 @@ run-found n (e ∷ es) =
 
 module _ (es : List Entry) (s : Ascending 0 es) where
   -- the names are those that are found
-  gathered-names : runs half-word 0 (λ n. of-some [] (entry-at n) (lookup n es)) ≡ es
+  gathered-names : chained half-word 0 (λ n. of-some [] (entry-at n) (lookup n es)) ≡ es
   gathered-names =
-      runs-keyed (λ e. e .name) (λ e. e ∷ []) half-word 0 half-word es _ refl
+      chained-keyed (λ e. e .name) (λ e. e ∷ []) half-word 0 half-word es _ refl
       (from-zero (λ e. e .name) (λ e. e ∷ []) 1 half-word es (between-names (λ e. e ∷ []) 0 es s)) (λ n l. run-found n es)
       ∙ run-all-one (λ e. e .name) es
 
-  pub count-names : count half-word (λ n. held (lookup n es)) ≡ length es
+  pub count-names : how-many half-word (λ n. held (lookup n es)) ≡ length es
   count-names =
-      count-runs half-word (λ n. held (lookup n es))
-      ∙ length-runs half-word 0 (in-turn (λ n. held (lookup n es))) (λ n. of-some [] (entry-at n) (lookup n es)) (λ n. one (lookup n es) n)
+      count-chained half-word (λ n. held (lookup n es))
+      ∙ length-chained half-word 0 (in-turn (λ n. held (lookup n es))) (λ n. of-some [] (entry-at n) (lookup n es)) (λ n. one (lookup n es) n)
       ∙ ap length gathered-names
     where
       one : (o : Option ℕ) (n : ℕ) → length (cond (held o) (n ∷ []) []) ≡ length (of-some [] (entry-at n) o)
@@ -148,6 +148,6 @@ module _ (s : ℕ) where
 
   pub words-seen : s < group-names → (es : List Entry) → Ascending 0 es → Seen.name-words (OutputNs s (λ n. lookup n es)) ≡ name-words s es
   words-seen l es u =
-      runs-keyed word-at one-word (group-names * half-word) 0 (group-names * half-word) es _ refl
+      chained-keyed word-at one-word (group-names * half-word) 0 (group-names * half-word) es _ refl
       (from-zero word-at one-word _ (group-names * half-word) es (between-words l 0 es u)) (λ w k. word-found 0 w es u)
       ∙ run-words es

@@ -27,7 +27,7 @@ use Rattle.published.specs.Published as P
 use Rattle.published.specs.Published.{Set, Map, of-some, any, with-at, less-at, SGroup, Namespace, GrNames, NoGroup, Names, gives, with-group, transition}
 use Rattle.published.specs.Seen as Seen
 use Rattle.published.specs.Seen.{seen, published}
-use Rattle.published.specs.Concatenated.{runs-none}
+use Rattle.published.specs.Concatenated.{chained-none}
 use Rattle.published.specs.GroupsSeen.{on-some, member, groups-seen, free-seen, put-seen}
 use Rattle.published.specs.NamesSeen.{insert-seen, remove-seen, pid-seen, words-seen}
 use Rattle.published.specs.Follows.{Agrees, by-refusal, by-both, kept, by-member}
@@ -155,7 +155,7 @@ module _ {cap : ℕ} (st : State) (w : Regular cap st) (room G i s : ℕ) where
       → Agrees (settled (inside room (st .size) G i (registered-names s) (find s (st .groups)))) (transition (RegisteredNames s) i (published st))
   unfolding inside published transition apply
   lists small =
-      by-member st s i (Listed 0) (P.Nss (λ t. P.nobody)) (ap Seen.listed (runs-none (group-names * half-word) 0)) (find s (st .groups))
+      by-member st s i (Listed 0) (P.Nss (λ t. P.nobody)) (ap Seen.listed (chained-none (group-names * half-word) 0)) (find s (st .groups))
       (λ g. listed room (name-words s (g .names))) _ λ g f.
       by-refusal settled (ltb room (length (name-words s (g .names)))) (say Error RunShort) _ _ refl λ x h.
       record { state = refl; said-is = ap Seen.listed (words-seen s small (g .names) (names-up g f)) }

@@ -1,6 +1,6 @@
 -- Opening: an accepted one gives a sound table with the published opening state, and a refused one leaves every word. Assumes nothing.
-use mathlib.Core.Path.{_≡_, refl, ap, ap₂, _∙_, fun-ext}
-use mathlib.Core.Bool.{Bool, true, false, not, _&&_, _||_, cond, and-true}
+use mathlib.Core.Path.{_≡_, refl, sym, ap, ap₂, _∙_, fun-ext}
+use mathlib.Core.Bool.{Bool, true, false, not, _&&_, _||_, cond, and-true, true≢false, false≢true}
 use mathlib.Core.Option.{none, some}
 use mathlib.Core.List.{List, []}
 use Prim.Native.Nat.{ℕ, zero, suc, _^_, _≤_, _<_}
@@ -10,10 +10,9 @@ use lib.ListN.{length, getD, replicate, length-replicate}
 use borrow.Author.Tests.{eqb-false, ltb-false, leb-false, le-ltb}
 use Rattle.nodes.specs.Sets.{node-limit, has, single, beyond}
 use Rattle.nodes.specs.SetLaws.{has-none, has-single}
-use Rattle.answers.specs.Answers.{number}
 use Rattle.semantics.specs.Sizes.{names-per-group, group-names, table-words}
 use Rattle.semantics.specs.State.{find}
-use Rattle.answers.specs.Answers.{answer-of}
+use Rattle.answers.specs.Answers.{refuses, answer-of}
 use Rattle.semantics.specs.Steps.{opened}
 use Rattle.semantics.specs.Table.{layout}
 use Rattle.semantics.specs.Soundness.{Sound}
@@ -63,10 +62,10 @@ opens N hidden high =
 
 -- what opening gives, for the reason: Ok, and a sound table with that state; or Error, and the table as it was
 pub record Opens (r : Reason) (N hidden : ℕ) (t : List ℕ) (c : Call) : Type 0 where
-  pub answer-is : c .answer ≡ answer-of (cond (eqb (number r) (number Done)) Ok Error) r
+  pub answer-is : c .answer ≡ answer-of (cond (refuses r) Error Ok) r
   pub no-list : c .list ≡ []
-  pub accepted : r ≡ Done → Sound names-per-group (c .table) × (seen-table (c .table) ≡ Opening N (has hidden))
-  pub left : (r ≡ Done → ⊥) → c .table ≡ t
+  pub accepted : refuses r ≡ false → Sound names-per-group (c .table) × (seen-table (c .table) ≡ Opening N (has hidden))
+  pub left : refuses r ≡ true → c .table ≡ t
 
 pub exact-opening : (N hidden : ℕ) (t : List ℕ) → hidden < 2 ^ node-limit
     → Opens (first (opening-tests (length t) N (has hidden))) N hidden t (opening N hidden t)
@@ -75,13 +74,13 @@ exact-opening N hidden t small =
     rw (any-beyond hidden N small)
     (go (eqb (length t) (table-words names-per-group)) (eqb N 0 || ltb node-limit N) refl (beyond hidden N) refl)
   where
-    -- a reason that is not Done
-    turned-down : (r : Reason) → eqb (number r) 0 ≡ false → Opens r N hidden t (refused r t)
+    -- a reason that refuses
+    turned-down : (r : Reason) → refuses r ≡ true → Opens r N hidden t (refused r t)
     turned-down r e =
         record {
           answer-is = rw e;
           no-list = refl;
-          accepted = λ d. absurd (eqb-false (number r) 0 e (ap number d));
+          accepted = λ d. absurd (true≢false (sym e ∙ d));
           left = λ d. refl;
         }
 
@@ -106,5 +105,5 @@ exact-opening N hidden t small =
             sound-iff names-per-group (layout names-per-group (opened N hidden)) .0 (regular-test names-per-group (opened N hidden) (whole p q)),
             ap published (round-trip names-per-group (opened N hidden) (whole p q)) ∙ opens N hidden (whole p q .size-high),
           );
-          left = λ d. absurd (d refl);
+          left = λ d. absurd (false≢true d);
         }

@@ -22,10 +22,10 @@ use Rattle.semantics.specs.FreeGroupsOfNodes.{own-free, free-lt}
 use Rattle.semantics.specs.Changed.{regular-found}
 use Rattle.answers.specs.declared.Value.the-variants.{Nodes}
 use Rattle.published.specs.Published.{Set, Map, of-some, any, only, SGroup, IsSGroupNode, SameSGroup, OwnSGroupNis, OwnGroupNis, OutputOwnSGroups, Nis}
-use Rattle.published.specs.Seen.{seen, published, word, count, runs, group-words, said}
+use Rattle.published.specs.Seen.{seen, published, set-word, how-many, chained, group-words, said}
 use Rattle.published.specs.SomeBelow.{any-case, any-none}
-use Rattle.published.specs.Concatenated.{runs-none, run-all, word-of, count-has}
-use Rattle.published.specs.GroupsSeen.{on-some, member, groups-seen, in-found, unions-seen, runs-found}
+use Rattle.published.specs.Concatenated.{chained-none, run-all, word-of, count-has}
+use Rattle.published.specs.GroupsSeen.{on-some, member, groups-seen, in-found, unions-seen, chained-found}
 use Rattle.published.specs.ConnectRule.{in-groups, loose-is, empty-free}
 
 -- ---- own_nodes
@@ -128,19 +128,19 @@ module _ {cap : ℕ} (st : State) (w : Regular cap st) (i : ℕ) where
       go false e = e
 
   -- the words of the s_group s, if it is one of i
-  words-at : (s : ℕ) → of-some [] (λ nis. s ∷ word node-limit nis ∷ []) (OutputOwnSGroups i (groups-seen (st .groups)) s)
+  words-at : (s : ℕ) → of-some [] (λ nis. s ∷ set-word node-limit nis ∷ []) (OutputOwnSGroups i (groups-seen (st .groups)) s)
       ≡ of-some [] own-words (find s (st .groups))
   words-at s = go (find s (st .groups)) refl
     where
       in-it : (g : Group) → find s (st .groups) ≡ some g → (x : Bool)
-          → of-some [] (λ nis. s ∷ word node-limit nis ∷ []) (cond x (some (has (g .members))) none) ≡ cond x (g .name ∷ g .members ∷ []) []
+          → of-some [] (λ nis. s ∷ set-word node-limit nis ∷ []) (cond x (some (has (g .members))) none) ≡ cond x (g .name ∷ g .members ∷ []) []
       in-it g f true =
           ap₂ (λ (a b : ℕ). a ∷ b ∷ []) (sym (found-name s (st .groups) g f))
           (word-of node-limit (g .members) (in-word (w .size-high) (regular-found w s g f .on-roster)))
       in-it g f false = refl
 
       go : (o : Option Group) → find s (st .groups) ≡ o
-          → of-some [] (λ nis. s ∷ word node-limit nis ∷ []) (of-some none (λ g. cond (g .nodes i) (some (g .nodes)) none) (on-some seen o))
+          → of-some [] (λ nis. s ∷ set-word node-limit nis ∷ []) (of-some none (λ g. cond (g .nodes i) (some (g .nodes)) none) (on-some seen o))
           ≡ of-some [] own-words o
       go none f = refl
       go (some g) f = in-it g f (has (g .members) i)
@@ -158,5 +158,5 @@ module _ {cap : ℕ} (st : State) (w : Regular cap st) (i : ℕ) where
     where
       go : (x : Bool) → IsSGroupNode i (groups-seen (st .groups)) ≡ x → group-words (cond x (OutputOwnSGroups i (groups-seen (st .groups))) (λ s. none))
           ≡ own-list i (st .groups)
-      go true e = ap (runs group-names 0) (fun-ext words-at) ∙ runs-found cap (st .size) (st .groups) (w .rising) (w .each) own-words ∙ run-own (st .groups)
-      go false e = runs-none group-names 0 ∙ sym (no-own (st .groups) (sym (in-groups st w i) ∙ e))
+      go true e = ap (chained group-names 0) (fun-ext words-at) ∙ chained-found cap (st .size) (st .groups) (w .rising) (w .each) own-words ∙ run-own (st .groups)
+      go false e = chained-none group-names 0 ∙ sym (no-own (st .groups) (sym (in-groups st w i) ∙ e))

@@ -21,7 +21,7 @@ use Rattle.commands.specs.declared.Command.{Command}
 use Rattle.commands.specs.declared.Command.the-variants.{RegisterName, ReRegisterName, UnregisterName, RegisteredNames, WhereisName, WhereisNameAt, Send, SendName, SendAt, NewSGroup, AddNodes, RemoveNodes, DeleteSGroup, OwnNodes, OwnSGroups}
 use Rattle.semantics.specs.GroupCommands.{GroupCommand, register-name, re-register-name, unregister-name, whereis-name, registered-names, add-nodes, new-s-group, within}
 use Rattle.semantics.specs.Ranges.{held, bad-group}
-use Rattle.semantics.specs.Steps.{Result, Outcome, Effect, error, say, done, settle, told, inside, outcome, group-step, apply, for-member, tell, ask, look-in, look-reason, own-list, rule, step}
+use Rattle.semantics.specs.Steps.{Result, Outcome, Effect, error, say, done, settle, read-only, inside, outcome, group-step, apply, for-member, tell, ask, look-in, look-reason, own-list, rule, step}
 use Rattle.answers.specs.declared.Value.{Value}
 use Rattle.answers.specs.declared.Value.the-variants.{True, False, Error, Undefined, Listed}
 use Rattle.answers.specs.declared.Reason.{Reason}
@@ -32,7 +32,7 @@ use Rattle.semantics.specs.Within.{step-within}
 use Rattle.semantics.specs.Fits.{Fits}
 use Rattle.semantics.specs.Changed.{regular-found}
 use Rattle.published.specs.Published.{of-some, any, SGroup, Namespace, gives, has-pid, transition}
-use Rattle.published.specs.Seen.{seen, published, said, count}
+use Rattle.published.specs.Seen.{seen, published, said, how-many}
 use Rattle.published.specs.Refusals.{Test, _when_, first, off-roster, strays, names-in, full, run-short, tests-set, tests-at, tests, ruled, refusal}
 use Rattle.published.specs.SomeBelow.{any-beyond}
 use Rattle.published.specs.GroupsSeen.{on-some, member, groups-seen, roster-seen, count-groups}
@@ -131,7 +131,7 @@ module _ {cap : ℕ} (st : State) (w : Regular cap st) (s : ℕ) (g : Group) (f 
   pid-test p = ap (has-pid p) (fun-ext names-are) ∙ pid-seen p (g .names) names-up
 
   full-test : full s (published st) ≡ W.full (g .names)
-  full-test = ap (λ (ns : Namespace). leb names-per-group (count half-word (λ n. held (ns n)))) (fun-ext names-are)
+  full-test = ap (λ (ns : Namespace). leb names-per-group (how-many half-word (λ n. held (ns n)))) (fun-ext names-are)
       ∙ ap (leb names-per-group) (count-names (g .names) names-up)
 
   list-test : (room i : ℕ) → s < group-names → has (g .members) i ≡ true
@@ -326,7 +326,7 @@ told-step room i (DeleteSGroup s) st w fits =
 told-step room i OwnNodes st w fits = from-roster st w i _ _ (last st _ refl)
 told-step room i OwnSGroups st w fits =
     from-roster st w i _ _
-    (by st (λ o. told o st) (ltb room (length (own-list i (st .groups)))) _ RunShort _ _ _ (ap (λ (l : List ℕ). ltb room (length l)) (own-list-seen st w i))
+    (by st (λ o. read-only o st) (ltb room (length (own-list i (st .groups)))) _ RunShort _ _ _ (ap (λ (l : List ℕ). ltb room (length l)) (own-list-seen st w i))
     (record { reason-is = refl; refused = λ k. record { state = refl; said-is = refl } }) λ x. last st _ refl)
 
 pub because : {cap : ℕ} (room i : ℕ) (c : Command) (st : State) → Regular cap st → Fits c

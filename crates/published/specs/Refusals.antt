@@ -8,17 +8,16 @@ use lib.Dec.{eqb, ltb, leb}
 use lib.ListN.{length}
 use Rattle.nodes.specs.Sets.{node-limit, has}
 use Rattle.entries.specs.Entries.{half-word, host}
-use Rattle.answers.specs.Answers.{number}
 use Rattle.semantics.specs.Sizes.{group-limit, names-per-group, group-names, table-words}
 use Rattle.commands.specs.declared.Command.{Command}
 use Rattle.commands.specs.declared.Command.the-variants.{RegisterName, ReRegisterName, UnregisterName, RegisteredNames, WhereisName, WhereisNameAt, Send, SendName, SendAt, NewSGroup, AddNodes, RemoveNodes, DeleteSGroup, OwnNodes, OwnSGroups}
-use Rattle.answers.specs.Answers.{answer-of}
+use Rattle.answers.specs.Answers.{among, refuses, answer-of}
 use Rattle.semantics.specs.Ranges.{held, bad-group}
 use Rattle.answers.specs.declared.Answer.{Answer}
 use Rattle.answers.specs.declared.Reason.{Reason}
 use Rattle.answers.specs.declared.Reason.the-variants.{Done, TableLength, RosterSize, CallerUnknown, GroupNameRange, NameZero, NodeUnknown, GroupUnknown, NotMember, NameTaken, PidTaken, NotRegistered, NamespaceFull, CallerOutside, GroupTaken, GroupsFull, RunShort}
 use Rattle.published.specs.Published.{Set, of-some, any, Namespace, Published, IsSGroupSNode, has-pid, Value, False, Error, Step, gives, transition}
-use Rattle.published.specs.Seen.{count, said}
+use Rattle.published.specs.Seen.{how-many, said}
 
 -- ---- what the reasons ask
 
@@ -44,7 +43,7 @@ names-in s X n = of-some none (λ g. g .namespace n) (X .grs s)
 
 -- the namespace of s has no room
 abbrev pub full : ℕ → Published → Bool
-full s X = leb names-per-group (count half-word (λ n. held (names-in s X n)))
+full s X = leb names-per-group (how-many half-word (λ n. held (names-in s X n)))
 
 -- the run for a list has fewer words than the list that 000's rule gives
 abbrev pub run-short : ℕ → Step → Bool
@@ -105,7 +104,7 @@ tests room (AddNodes s set) ni X = tests-set s set ni X
 tests room (NewSGroup s set) ni X =
     CallerUnknown when off-roster ni X ∷ GroupNameRange when bad-group s ∷ NodeUnknown when strays (has set) X
     ∷ CallerOutside when not (has set ni) ∷ GroupTaken when held (X .grs s)
-    ∷ GroupsFull when leb group-limit (count group-names (λ t. held (X .grs t))) ∷ []
+    ∷ GroupsFull when leb group-limit (how-many group-names (λ t. held (X .grs t))) ∷ []
 tests room (WhereisNameAt ni′ s n) ni X = tests-at ni′ s n ni X
 tests room (SendAt ni′ s n) ni X = tests-at ni′ s n ni X
 tests room (Send p) ni X = CallerUnknown when off-roster ni X ∷ NodeUnknown when off-roster (host p) X ∷ []
@@ -124,15 +123,13 @@ opening-tests run N nis =
 
 -- ---- the answer
 
--- 000 has a rule for reason 0 and for 8 to 12 and 14; the others are 01's
+-- 000 has a rule where nothing is refused, and for 8 to 12 and 14; the others are 01's
 abbrev pub ruled : Reason → Bool
-ruled r =
-    eqb (number r) (number Done) || (leb (number GroupUnknown) (number r) && leb (number r) (number NotRegistered))
-    || eqb (number r) (number CallerOutside)
+ruled r = not (refuses r) || among r (GroupUnknown ∷ NotMember ∷ NameTaken ∷ PidTaken ∷ NotRegistered ∷ CallerOutside ∷ [])
 
 -- what 01 answers for its own: Error, and False for a full namespace
 abbrev pub refusal : Reason → Value
-refusal r = cond (eqb (number r) (number NamespaceFull)) False Error
+refusal r = cond (among r (NamespaceFull ∷ [])) False Error
 
 -- the state after a command, the library's answer, and the words of its list
 pub record Answered : Type 0 where

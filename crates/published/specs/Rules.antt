@@ -16,7 +16,7 @@ use Rattle.commands.specs.declared.Command.{Command}
 use Rattle.commands.specs.declared.Command.the-variants.{RegisterName, ReRegisterName, UnregisterName, RegisteredNames, WhereisName, WhereisNameAt, Send, SendName, SendAt, NewSGroup, AddNodes, RemoveNodes, DeleteSGroup, OwnNodes, OwnSGroups}
 use Rattle.semantics.specs.GroupCommands.{GroupCommand, register-name, re-register-name, unregister-name, whereis-name, registered-names, add-nodes, new-s-group, within}
 use Rattle.semantics.specs.Ranges.{bad-group}
-use Rattle.semantics.specs.Steps.{Result, reply, error, say, settle, told, target, inside, outcome, group-step, ask, send-on, tell, own-list, connect, rule, step}
+use Rattle.semantics.specs.Steps.{Result, reply, error, say, settle, read-only, target, inside, outcome, group-step, ask, send-on, tell, own-list, connect, rule, step}
 use Rattle.answers.specs.declared.Value.the-variants.{Error}
 use Rattle.answers.specs.declared.Reason.{Reason}
 use Rattle.answers.specs.declared.Reason.the-variants.{CallerUnknown, GroupNameRange, NameZero, NodeUnknown, NotMember, NotRegistered, RunShort}
@@ -165,7 +165,7 @@ agree-rule room i (DeleteSGroup s) st w h =
     for-one st s i (find s (st .groups)) _ _ λ g f k. record { state = deletes st w s g f; said-is = refl }
 agree-rule room i OwnNodes st w h = λ k. record { state = refl; said-is = own-said st w i h }
 agree-rule room i OwnSGroups st w h =
-    by-refusal (λ o. told o st) (ltb room (length (own-list i (st .groups)))) (say Error RunShort) _ _ refl λ x k.
+    by-refusal (λ o. read-only o st) (ltb room (length (own-list i (st .groups)))) (say Error RunShort) _ _ refl λ x k.
     record { state = refl; said-is = ap listed (own-list-seen st w i) }
 
 pub agree : {cap : ℕ} (room i : ℕ) (c : Command) (st : State) → Regular cap st → Agrees (step room i c st) (transition c i (published st))

@@ -47,28 +47,28 @@ seen-table t = published (state-of names-per-group t)
 
 -- ---- values
 
--- the word of the nodes of a below n
-unfoldable pub word : ℕ → Set → ℕ
-word zero a = 0
-word (suc n) a = cond (a n) (union (single n) (word n a)) (word n a)
+-- the nodes of a below n as a word
+unfoldable pub set-word : ℕ → Set → ℕ
+set-word zero a = 0
+set-word (suc n) a = cond (a n) (union (single n) (set-word n a)) (set-word n a)
 
 -- how many numbers below n are in a
-unfoldable pub count : ℕ → Set → ℕ
-count zero a = 0
-count (suc n) a = cond (a n) (suc (count n a)) (count n a)
+unfoldable pub how-many : ℕ → Set → ℕ
+how-many zero a = 0
+how-many (suc n) a = cond (a n) (suc (how-many n a)) (how-many n a)
 
--- the n runs from f k on, one after another
-unfoldable pub runs : {A : Type 0} → ℕ → ℕ → (ℕ → List A) → List A
-runs zero k f = []
-runs (suc n) k f = f k ++ runs n (suc k) f
+-- the n lists from f k on, one after another
+unfoldable pub chained : {A : Type 0} → ℕ → ℕ → (ℕ → List A) → List A
+chained zero k f = []
+chained (suc n) k f = f k ++ chained n (suc k) f
 
 -- the words s × 2^32 + n, ascending
 abbrev pub name-words : (ℕ → Set) → List ℕ
-name-words nss = runs (group-names * half-word) 0 (λ w. cond (nss (w / half-word) (w % half-word)) (w ∷ []) [])
+name-words nss = chained (group-names * half-word) 0 (λ w. cond (nss (w / half-word) (w % half-word)) (w ∷ []) [])
 
 -- the words s and nis, by s
 abbrev pub group-words : Map Set → List ℕ
-group-words snis = runs group-names 0 (λ s. of-some [] (λ nis. s ∷ word node-limit nis ∷ []) (snis s))
+group-words snis = chained group-names 0 (λ s. of-some [] (λ nis. s ∷ set-word node-limit nis ∷ []) (snis s))
 
 -- a list, and how many words it has
 abbrev pub listed : List ℕ → Value × List ℕ
@@ -81,7 +81,7 @@ said P.False = (W.False, [])
 said P.Error = (W.Error, [])
 said P.Undefined = (W.Undefined, [])
 said (P.Pid p) = (W.Pid p, [])
-said (P.Grp s nis) = (Grouped s (word node-limit nis), [])
-said (Nis nis) = (Nodes (word node-limit nis) (count node-limit nis), [])
+said (P.Grp s nis) = (Grouped s (set-word node-limit nis), [])
+said (Nis nis) = (Nodes (set-word node-limit nis) (how-many node-limit nis), [])
 said (Nss nss) = listed (name-words nss)
 said (Snis snis) = listed (group-words snis)

@@ -11,7 +11,7 @@ use Rattle.entries.specs.Entries.{half-word, host}
 use Rattle.semantics.specs.Sizes.{group-limit, names-per-group, group-names}
 use Rattle.semantics.specs.Ranges.{held}
 use Rattle.published.specs.Published.{Set, _∖_, any, Namespace, SGroup, Node, Published, those, IsSGroupNode}
-use Rattle.published.specs.Seen.{names-seen, count}
+use Rattle.published.specs.Seen.{names-seen, how-many}
 
 -- ni′ is among the connections of ni
 abbrev pub connected : ℕ → ℕ → Published → Bool
@@ -24,7 +24,7 @@ free h X = those (λ nd. cond h (nd .hidden) (not (nd .hidden))) (X .nds) ∖ (�
 -- a namespace: names and pids in range, hosts on the roster; no more names than there is room for; no pid twice
 pub record Fair-namespace (size : ℕ) (ns : Namespace) : Type 0 where
   pub in-range : (n p : ℕ) → ns n ≡ some p → (1 ≤ n) × (n < half-word) × (p < half-word) × (host p < size)
-  pub few : count half-word (λ n. held (ns n)) ≤ names-per-group
+  pub few : how-many half-word (λ n. held (ns n)) ≤ names-per-group
   pub pids : (n m p : ℕ) → ns n ≡ some p → ns m ≡ some p → n ≡ m
 
 -- the s_group s: its name in range; a member; members on the roster, and all connected; its namespace
@@ -42,7 +42,7 @@ pub record WellFormed (X : Published) : Type 0 where
   pub size-range : (1 ≤ size) × (size ≤ node-limit)
   pub roster : (ni : ℕ) → held (X .nds ni) ≡ ltb ni size
   -- no more s_groups than there is room for; gr_names are those of the s_groups that the node is in
-  pub few-groups : count group-names (λ s. held (X .grs s)) ≤ group-limit
+  pub few-groups : how-many group-names (λ s. held (X .grs s)) ≤ group-limit
   pub groups : (s : ℕ) (g : SGroup) → X .grs s ≡ some g → Fair-group X size s g
   pub gr-names-are : (ni : ℕ) (nd : Node) → X .nds ni ≡ some nd → nd .gr-names ≡ names-seen ni (X .grs)
   -- a connection goes both ways, and never from a node to itself

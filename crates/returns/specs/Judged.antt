@@ -15,7 +15,7 @@ use Rattle.commands.specs.declared.Command.{Command}
 use Rattle.commands.specs.declared.Command.the-variants.{WhereisNameAt, Send, SendName, SendAt, NewSGroup, RemoveNodes, DeleteSGroup, OwnNodes, OwnSGroups}
 use Rattle.semantics.specs.GroupCommands.{GroupCommand, register-name, re-register-name, unregister-name, whereis-name, registered-names, add-nodes, new-s-group, within}
 use Rattle.semantics.specs.Ranges.{bad-group, held}
-use Rattle.semantics.specs.Steps.{connect, become-free, Result, reply, error, target, hold, join, create, Outcome, done, say, listed, as-member, pid-or-undefined, look-reason, full, name-words, inside, outcome, apply, settle, group-step, ask, tell, send-on, for-member, left-in, own-set, own-list, told, rule, step}
+use Rattle.semantics.specs.Steps.{connect, become-free, Result, reply, error, target, hold, join, create, Outcome, done, say, listed, as-member, pid-or-undefined, look-reason, full, name-words, inside, outcome, apply, settle, group-step, ask, tell, send-on, for-member, left-in, own-set, own-list, read-only, rule, step}
 use Rattle.semantics.specs.Within.{step-within}
 use Rattle.answers.specs.declared.Value.{Value}
 use Rattle.answers.specs.declared.Value.the-variants.{True, False, Error, Undefined, Pid, Grouped, Nodes, Listed}
@@ -220,7 +220,7 @@ module _ (room i : ℕ) (st : State) where
   unfolding step rule
   step-own-nodes = record { is = by-caller (refusal st) (st .size) i _ }
 
-  pub step-own-s-groups : Judging room i OwnSGroups st (caller-reason (st .size) i) (told (listed room (own-list i (st .groups))) st)
+  pub step-own-s-groups : Judging room i OwnSGroups st (caller-reason (st .size) i) (read-only (listed room (own-list i (st .groups))) st)
   unfolding step rule
   step-own-s-groups = record { is = by-caller (refusal st) (st .size) i _ }
 

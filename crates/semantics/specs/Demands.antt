@@ -2,8 +2,8 @@
 use mathlib.Core.Path.{_≡_, refl, sym, ap, _∙_, subst}
 use mathlib.Core.Logic.{⊎-elim}
 use mathlib.Core.Bool.{Bool, true, false, cond}
-use mathlib.Core.List.{List, [], _∷_, List·Memᴰ}
-use Prim.Native.Nat.{ℕ, _+_, _≤_}
+use mathlib.Core.List.{List, [], _∷_, List·Memᴰ, List·Memᴰ·head, List·Memᴰ·tail}
+use Prim.Native.Nat.{ℕ, suc, _+_, _≤_}
 use native.Mathlib.Omega.{arith}
 use lib.ListN.{length}
 use Rattle.nodes.specs.Bools.{by-test}
@@ -20,7 +20,7 @@ use Rattle.semantics.specs.Regular.{Regular}
 use Rattle.semantics.specs.StepsKeep.{keeps}
 use Rattle.semantics.specs.Agree.{test-regular, sound-iff}
 use Rattle.semantics.specs.Mixes.{Turn, of, Mix, Disjoint, All-lines, Each-once, whole, Agree}
-use Rattle.semantics.specs.Lines.{Said, Line, key, Line-fits, group-in, said-by-call, step-move, step-say, call-move, call-say, news}
+use Rattle.semantics.specs.Lines.{Said, Line, key, Same-group, Line-fits, group-in, said-by-call, step-move, step-say, call-move, call-say, news, all-news}
 use Rattle.semantics.specs.Mixing.{of-head, of-tail, whole-mix, mixing, agree-through}
 use Rattle.semantics.specs.Swap.{isolation}
 use Rattle.semantics.specs.MixedStates.{mixed}
@@ -51,12 +51,12 @@ does t m st h =
 -- ---- scripts on a table that does not pass: every line hears the same, and nothing changes
 
 -- what every line hears
-abbrev refusal : List ℕ → Said
-refusal t = record { answer = answer-of Error (why t); list = [] }
+abbrev turned-away : List ℕ → Said
+turned-away t = record { answer = answer-of Error (why t); list = [] }
 
-refuses : (t : List ℕ) → sound names-per-group t ≡ false → (x : Turn Line) (m : List (Turn Line)) (u : Unit {0}) → Unit {0}
-    → (call-move (x .line) t ≡ t) × (call-say (x .line) t ≡ refusal t) × Unit {0}
-refuses t e x m u h =
+unmoved : (t : List ℕ) → sound names-per-group t ≡ false → (x : Turn Line) (m : List (Turn Line)) (u : Unit {0}) → Unit {0}
+    → (call-move (x .line) t ≡ t) × (call-say (x .line) t ≡ turned-away t) × Unit {0}
+unmoved t e x m u h =
     let r = call-unsound (x .line .room) (x .line .caller) (within (x .line .command)) t e in
     (ap (λ (c : Call). c .table) r, ap said-by-call r, tt)
 
@@ -71,9 +71,9 @@ count-layout : (st : State) → count-of (layout names-per-group st) ≡ length 
 unfolding layout sections
 count-layout st = refl
 
-module _ (scripts : List (List Line)) (apart : Disjoint key scripts) (m : List (Turn Line)) (mix : Mix scripts m) (order : List ℕ) (each : Each-once scripts order) where
+module _ (scripts : List (List Line)) (apart : Disjoint Same-group scripts) (m : List (Turn Line)) (mix : Mix scripts m) (order : List ℕ) (each : Each-once scripts order) where
   -- on the table of a regular state
-  on-layout : All-lines Line-fits scripts → (st : State) → Regular names-per-group st → length (st .groups) + news m ≤ group-limit
+  on-layout : All-lines Line-fits scripts → (st : State) → Regular names-per-group st → length (st .groups) + all-news scripts ≤ group-limit
       → Agree call-move call-say m (whole scripts order) (layout names-per-group st)
   on-layout fit st w h =
       agree-through step-move step-say call-move call-say (layout names-per-group) (λ x s. Regular names-per-group s × Turns-fit x) does m (whole scripts order) st
@@ -83,39 +83,43 @@ module _ (scripts : List (List Line)) (apart : Disjoint key scripts) (m : List (
   -- on a table that is refused
   on-refused : (t : List ℕ) → sound names-per-group t ≡ false → Agree call-move call-say m (whole scripts order) t
   on-refused t e =
-      agree-through (λ l u. u) (λ l u. refusal t) call-move call-say (λ (u : Unit {0}). t) (λ x u. Unit {0}) (refuses t e) m (whole scripts order) tt tt tt
-      (mixing (λ l u. u) key (λ a b n u. refl) (λ l u. refusal t) (λ a b n u. refl) scripts apart m (whole scripts order) mix (whole-mix scripts order each) tt)
+      agree-through (λ l u. u) (λ l u. turned-away t) call-move call-say (λ (u : Unit {0}). t) (λ x u. Unit {0}) (unmoved t e) m (whole scripts order) tt tt tt
+      (mixing (λ l u. u) Same-group (λ a b n u. refl) (λ l u. turned-away t) (λ a b n u. refl) scripts apart m (whole scripts order) mix (whole-mix scripts order each) tt)
 
--- Scripts that name no s_group in common, mixed in any way that keeps the order of each: every line hears, answer and list, what it hears with the
+-- Scripts of which no two name one s_group, mixed in any way that keeps the order of each: every line hears, answer and list, what it hears with the
 -- scripts whole, one after another, in any order, and the last table is the same. Where the table is sound, its s_groups and all new_s_group lines
--- are at most as many as fit; where it is not, every line is refused
-pub demand-3 : (scripts : List (List Line)) → Disjoint key scripts → All-lines Line-fits scripts → (m : List (Turn Line)) → Mix scripts m
-    → (order : List ℕ) → Each-once scripts order → (t : List ℕ) → (Sound names-per-group t → count-of t + news m ≤ group-limit)
+-- of the scripts are at most as many as fit; where it is not, every line is refused
+pub demand-3 : (scripts : List (List Line)) → Disjoint Same-group scripts → All-lines Line-fits scripts → (m : List (Turn Line)) → Mix scripts m
+    → (order : List ℕ) → Each-once scripts order → (t : List ℕ) → (Sound names-per-group t → count-of t + all-news scripts ≤ group-limit)
     → Agree call-move call-say m (whole scripts order) t
 demand-3 scripts apart fit m mix order each t h =
     ⊎-elim
     (λ (e : sound names-per-group t ≡ true).
     let q = test-regular names-per-group t e in
     let st : State = state-of names-per-group t in
-    let few : length (st .groups) + news m ≤ group-limit = omega (arith, h (sound-iff names-per-group t .0 e), count-layout st, ap count-of (q .1)) in
+    let few : length (st .groups) + all-news scripts ≤ group-limit = omega (arith, h (sound-iff names-per-group t .0 e), count-layout st, ap count-of (q .1)) in
     subst (λ (x : List ℕ). Agree call-move call-say m (whole scripts order) x) (q .1) (on-layout scripts apart m mix order each fit st (q .0) few))
     (on-refused scripts apart m mix order each t)
     (by-test (sound names-per-group t))
 
 -- where no line makes an s_group
-no-news : (m : List (Turn Line)) → ((k : ℕ) (a : Line) → List·Memᴰ a (of k m) → creates (a .command) ≡ false) → news m ≡ 0
+no-news : (ls : List Line) → ((a : Line) → List·Memᴰ a ls → creates (a .command) ≡ false) → news ls ≡ 0
 no-news [] h = refl
-no-news (t ∷ m) h =
-    omega (arith, ap (λ (x : Bool). cond {A = ℕ} x 1 0) (h (t .script) (t .line) (of-head t m)), no-news m (λ k a p. h k a (of-tail k t m a p)))
+no-news (l ∷ ls) h =
+    omega (arith, ap (λ (x : Bool). cond {A = ℕ} x 1 0) (h l (List·Memᴰ·head refl)), no-news ls (λ a p. h a (List·Memᴰ·tail p)))
+
+none-new : (scripts : List (List Line)) → All-lines (λ l. creates (l .command) ≡ false) scripts → all-news scripts ≡ 0
+none-new [] h = refl
+none-new (s ∷ ss) h = omega (arith, no-news s (h 0), none-new ss (λ k. h (suc k)))
 
 -- Without new_s_group lines nothing is asked of the table
-pub demand-3-base : (scripts : List (List Line)) → Disjoint key scripts → All-lines Line-fits scripts → All-lines (λ l. creates (l .command) ≡ false) scripts
+pub demand-3-base : (scripts : List (List Line)) → Disjoint Same-group scripts → All-lines Line-fits scripts → All-lines (λ l. creates (l .command) ≡ false) scripts
     → (m : List (Turn Line)) → Mix scripts m → (order : List ℕ) → Each-once scripts order → (t : List ℕ)
     → Agree call-move call-say m (whole scripts order) t
 demand-3-base scripts apart fit old m mix order each t =
     demand-3 scripts apart fit m mix order each t (λ s.
     let q = test-regular names-per-group t (sound-iff names-per-group t .1 s) in
-    omega (arith, q .0 .groups-few, count-layout (state-of names-per-group t), ap count-of (q .1), no-news m (of-mix (λ l. creates (l .command) ≡ false) scripts m old mix)))
+    omega (arith, q .0 .groups-few, count-layout (state-of names-per-group t), ap count-of (q .1), none-new scripts old))
 
 -- ---- who may feel what
 

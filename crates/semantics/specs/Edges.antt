@@ -1,16 +1,13 @@
 -- The sample script of document 01 and its edges, on whole tables, shown by computation. Assumes nothing.
 use mathlib.Core.Path.{_≡_, refl}
-use mathlib.Core.Logic.{_≢_}
 use mathlib.Core.Bool.{true}
 use mathlib.Core.List.{List, [], _∷_, map}
 use Prim.Native.Nat.{ℕ, zero, suc, _+_, _-_}
 use lib.ListN.{length, replicate}
-use borrow.Author.Tests.{ne-eqb}
 use Rattle.nodes.specs.Sets.{node-limit}
 use Rattle.entries.specs.Entries.{Entry}
 use Rattle.semantics.specs.Sizes.{group-limit, names-per-group, group-names, table-words}
 use Rattle.semantics.specs.State.{Group}
-use Rattle.commands.specs.declared.Command.{Command}
 use Rattle.commands.specs.declared.Command.the-variants.{RegisterName, ReRegisterName, RegisteredNames, WhereisName, WhereisNameAt, NewSGroup, RemoveNodes, DeleteSGroup, OwnNodes, OwnSGroups}
 use Rattle.answers.specs.Answers.{answer-of}
 use Rattle.semantics.specs.Steps.{name-words}
@@ -18,12 +15,12 @@ use Rattle.semantics.specs.Table.{pad, layout}
 use Rattle.semantics.specs.Test.{sound}
 use Rattle.semantics.specs.Call.{refused, call, opening}
 use Rattle.semantics.specs.Lines.{Said, said-by-call}
-use Rattle.semantics.specs.Marked.{_says_, calls, run, claim}
+use Rattle.semantics.specs.Marked.{_says_, calls, session, claim}
 use Rattle.semantics.specs.Compute.{computing}
 use Rattle.answers.specs.declared.Value.{Value}
 use Rattle.answers.specs.declared.Value.the-variants.{Ok, True, False, Undefined, Pid, Grouped, Nodes, Listed}
 use Rattle.answers.specs.declared.Reason.{Reason}
-use Rattle.answers.specs.declared.Reason.the-variants.{Done, TableLength, RosterSize, Unsound, GroupNameRange, NodeUnknown, NotMember, PidTaken, NotRegistered, NamespaceFull, GroupsFull, RunShort}
+use Rattle.answers.specs.declared.Reason.the-variants.{Done, RosterSize, Unsound, GroupNameRange, NodeUnknown, NotMember, PidTaken, NotRegistered, NamespaceFull, GroupsFull, RunShort}
 
 -- ---- tables and answers
 
@@ -36,8 +33,8 @@ abbrev pub table-of : ℕ → ℕ → List Group → List ℕ → List ℕ → L
 table-of N hidden gs ls fs = layout names-per-group (record { size = N; hidden = hidden; groups = gs; links = pad node-limit ls; free = pad node-limit fs })
 
 -- an answer without a list
-abbrev pub told : Value → Reason → Said
-told v r = record { answer = answer-of v r; list = [] }
+abbrev pub hears : Value → Reason → Said
+hears v r = record { answer = answer-of v r; list = [] }
 
 -- a list
 abbrev pub list-of : List ℕ → Said
@@ -45,11 +42,11 @@ list-of ws = record { answer = answer-of (Listed (length ws)) Done; list = ws }
 
 -- ---- the sample script
 
-pub sample : map said-by-call (run 4 8 blank (0 says NewSGroup 5 3 ∷ 0 says RegisterName 5 70 67108865 ∷ 1 says WhereisName 5 70
+pub sample : map said-by-call (session 4 8 blank (0 says NewSGroup 5 3 ∷ 0 says RegisterName 5 70 67108865 ∷ 1 says WhereisName 5 70
     ∷ 2 says WhereisName 5 70 ∷ 1 says WhereisName 5 71 ∷ 0 says OwnNodes ∷ []))
-    ≡ told Ok Done ∷ told (Grouped 5 3) Done ∷ told True Done ∷ told (Pid 67108865) Done
-    ∷ told Undefined NotMember ∷ told Undefined NotRegistered ∷ told (Nodes 3 2) Done ∷ []
-unfolding computing run calls
+    ≡ hears Ok Done ∷ hears (Grouped 5 3) Done ∷ hears True Done ∷ hears (Pid 67108865) Done
+    ∷ hears Undefined NotMember ∷ hears Undefined NotRegistered ∷ hears (Nodes 3 2) Done ∷ []
+unfolding computing session calls
 sample = refl
 
 -- ---- a full namespace
@@ -203,8 +200,3 @@ free-in-none = refl
 pub zeros-unsound : call 64 0 OwnNodes blank ≡ refused Unsound blank
 unfolding computing
 zeros-unsound = refl
-
-pub wrong-length : (t : List ℕ) → length t ≢ table-words names-per-group
-    → ((room i : ℕ) (c : Command) → call room i c t ≡ refused TableLength t) × ((N hidden : ℕ) → opening N hidden t ≡ refused TableLength t)
-unfolding call opening
-wrong-length t h = (λ room i c. rw (ne-eqb (length t) (table-words names-per-group) h), λ N hidden. rw (ne-eqb (length t) (table-words names-per-group) h))

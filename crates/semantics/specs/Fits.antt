@@ -11,8 +11,8 @@ abbrev pub Number : ℕ → Type 0
 Number n = n < half-word
 
 -- a set of 64 digits
-abbrev pub Set : ℕ → Type 0
-Set w = w < 2 ^ node-limit
+abbrev pub Node-set : ℕ → Type 0
+Node-set w = w < 2 ^ node-limit
 
 -- every argument fits
 abbrev pub Fits : Command → Type 0
@@ -21,13 +21,13 @@ Fits (ReRegisterName s n p) = Number s × Number n × Number p
 Fits (UnregisterName s n) = Number s × Number n
 Fits (WhereisName s n) = Number s × Number n
 Fits (RegisteredNames s) = Number s
-Fits (AddNodes s set) = Number s × Set set
-Fits (NewSGroup s set) = Number s × Set set
+Fits (AddNodes s set) = Number s × Node-set set
+Fits (NewSGroup s set) = Number s × Node-set set
 Fits (WhereisNameAt j s n) = Number j × Number s × Number n
 Fits (SendAt j s n) = Number j × Number s × Number n
 Fits (Send p) = Number p
 Fits (SendName s n) = Number s × Number n
-Fits (RemoveNodes s set) = Number s × Set set
+Fits (RemoveNodes s set) = Number s × Node-set set
 Fits (DeleteSGroup s) = Number s
 Fits OwnNodes = Unit {0}
 Fits OwnSGroups = Unit {0}

@@ -1,59 +1,73 @@
+-- The commands as steps on a state, the table and its soundness, a call, and what is proved of them. Files marked (believed) have the definitions that
+-- the statements of docs/STATEMENTS.md are made of; of the others a reader needs the statements alone.
+
+-- ---- sizes and arguments (believed): capacities and places of the table; ranges; how wide arguments are; the seven commands of one s_group
 pub mod Sizes
 pub mod Ranges
+pub mod Fits
 pub mod GroupCommands
+-- ---- a table (believed): the state that it stands for, as a record and read from its words; soundness, clause by clause
 pub mod State
-pub mod Steps
 pub mod Table
 pub mod Soundness
-pub mod Test
+-- ---- a call (believed): length, soundness, step; opening; the run for a list
 pub mod Call
-pub mod Regular
+-- ---- mixes of scripts (believed): scripts, mixes and orders, over any machine; script lines and what their callers hear
+pub mod Mixes
+pub mod Lines
+-- ---- the steps that a call takes: the fifteen commands and opening on a state, the test that computes
+pub mod Steps
+pub mod Within
+pub mod Test
+-- ---- 01 by computation: the marked steps, the sample and the edges, readings that are not ours
 pub mod Compute
 pub mod Marked
 pub mod Edges
 pub mod Readings
+-- ---- what a state of a sound table has: the working invariant, tests and truth values, members, s_groups in order, free nodes
+pub mod Regular
 pub mod Truth
 pub mod Members
-pub mod Wires
 pub mod Groups
-pub mod Within
+pub mod FreeNodes
 pub mod FreeGroupsOfNodes
+-- ---- every command keeps it: connections and free groups, an s_group that changes, connecting, becoming free, names, opening; all fifteen
+pub mod Wires
 pub mod Changed
 pub mod Merged
 pub mod Connected
 pub mod Freed
-pub mod Fits
 pub mod NamesKept
 pub mod StepsKeep
 pub mod OpenedRegular
-pub mod Agree
-pub mod Bodies
-pub mod Calls
-pub mod ClausesHold
-pub mod ClausesSuffice
-pub mod Demands
-pub mod Effects
-pub mod EntryPlaces
-pub mod Frame
-pub mod FreeNodes
-pub mod Growing
-pub mod WordsOfState
-pub mod Lines
-pub mod WordsMeaning
-pub mod Mixes
-pub mod Mixing
-pub mod NamingFrame
-pub mod OneGroup
+-- ---- the words of a state: lists in parts and sections, bodies, one s_group and one entry in the words
 pub mod Padding
 pub mod ThreeParts
-pub mod Places
-pub mod ReadOff
-pub mod Refused
-pub mod MixedStates
 pub mod Sections
-pub mod StateTest
-pub mod Swap
-pub mod TestLaws
-pub mod RoundTrip
-pub mod Unique
+pub mod Bodies
+pub mod WordsOfState
 pub mod WordByWord
+pub mod Places
+pub mod EntryPlaces
+pub mod OneGroup
+-- ---- words and state determine each other, and test, clauses and invariant agree
+pub mod RoundTrip
+pub mod ReadOff
+pub mod WordsMeaning
+pub mod TestLaws
+pub mod StateTest
+pub mod ClausesHold
+pub mod ClausesSuffice
+pub mod Agree
+-- ---- calls on tables: kept soundness, refusals, connections that stay, which words a naming command writes
+pub mod Calls
+pub mod Refused
+pub mod Growing
+pub mod Frame
+pub mod NamingFrame
+-- ---- isolation and demand 3: effects on two s_groups, the swap law, mixes over any machine, on states, on tables
+pub mod Effects
+pub mod Swap
+pub mod Mixing
+pub mod MixedStates
+pub mod Demands

@@ -1,19 +1,20 @@
 -- Script lines of the seven commands that change one s_group at most and free no node: what each makes of a state or a table, and what its caller hears.
 -- Definitions only. Assumes nothing.
+use mathlib.Core.Path.{_≡_}
 use mathlib.Core.Logic.{_≢_}
-use mathlib.Core.Bool.{cond}
+use mathlib.Core.Bool.{false, cond}
 use mathlib.Core.Option.{Option}
 use mathlib.Core.List.{List, [], _∷_}
 use Prim.Native.Nat.{ℕ, _+_, _≤_}
 use lib.ListN.{length}
 use Rattle.semantics.specs.Sizes.{group-limit, names-per-group}
+use Rattle.semantics.specs.Ranges.{bad-group}
 use Rattle.semantics.specs.State.{Group, State, find}
 use Rattle.semantics.specs.GroupCommands.{GroupCommand, within}
 use Rattle.semantics.specs.Steps.{Result, target, creates, step}
 use Rattle.semantics.specs.Fits.{Fits}
 use Rattle.semantics.specs.Table.{state-of}
 use Rattle.semantics.specs.Call.{Call, call}
-use Rattle.semantics.specs.Mixes.{Turn}
 use Rattle.answers.specs.declared.Answer.{Answer}
 
 -- what a caller hears: the answer and the words of its list
@@ -27,9 +28,13 @@ pub record Line : Type 0 where
   pub room : ℕ
   pub command : GroupCommand
 
--- the s_group that a line names
+-- the number that a line gives as its s_group's name
 abbrev pub key : Line → ℕ
 key l = target (l .command)
+
+-- two lines name one s_group: a number out of range is no s_group's name
+abbrev pub Same-group : Line → Line → Type 0
+Same-group a b = (bad-group (key a) ≡ false) × (key a ≡ key b)
 
 -- the arguments of a line fit
 abbrev pub Line-fits : Line → Type 0
@@ -81,10 +86,15 @@ group-in s t = find s (state-of names-per-group t .groups)
 abbrev pub cost : Line → ℕ
 cost l = cond (creates (l .command)) 1 0
 
--- how many of the turns are new_s_group lines
-abbrev pub news : List (Turn Line) → ℕ
+-- how many of the lines are new_s_group
+abbrev pub news : List Line → ℕ
 news [] = 0
-news (t ∷ m) = cost (t .line) + news m
+news (l ∷ ls) = cost l + news ls
+
+-- how many lines of the scripts are new_s_group, refused ones too
+abbrev pub all-news : List (List Line) → ℕ
+all-news [] = 0
+all-news (s ∷ ss) = news s + all-news ss
 
 -- there is room for n s_groups more, where n is not zero
 abbrev pub Room-for : ℕ → State → Type 0

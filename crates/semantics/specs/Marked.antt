@@ -36,8 +36,8 @@ calls t [] = []
 calls t (l ∷ ls) = let r : Call = call 64 (l .caller) (l .command) t in r ∷ calls (r .table) ls
 
 -- M1 opens the table t; M2 to M13 follow
-unfoldable pub run : ℕ → ℕ → List ℕ → List Line → List Call
-run N hidden t ls = let r : Call = opening N hidden t in r ∷ calls (r .table) ls
+unfoldable pub session : ℕ → ℕ → List ℕ → List Line → List Call
+session N hidden t ls = let r : Call = opening N hidden t in r ∷ calls (r .table) ls
 
 -- M2 to M13
 abbrev pub marked : List Line
@@ -97,6 +97,6 @@ claimed =
     ∷ []
 
 -- M1 to M13
-pub thirteen : run 4 8 (replicate (table-words names-per-group) 0) marked ≡ claimed
-unfolding claimed run calls call opening sound sound-state sound-group sound-entries is-ascending is-distinct is-hosted layout sections state-of words entries insert remove lookup holds-pid find put add-group drop-group interconnect leave-free one-free-group connect become-free inside outcome apply group-step rule step opened union inter diff union-all ones onesIn
+pub thirteen : session 4 8 (replicate (table-words names-per-group) 0) marked ≡ claimed
+unfolding claimed session calls call opening sound sound-state sound-group sound-entries is-ascending is-distinct is-hosted layout sections state-of words entries insert remove lookup holds-pid find put add-group drop-group interconnect leave-free one-free-group connect become-free inside outcome apply group-step rule step opened union inter diff union-all ones onesIn
 thirteen = refl

@@ -26,9 +26,9 @@ module _ {C : Type 0} where
   abbrev pub Mix : List (List C) → List (Turn C) → Type 0
   Mix scripts m = (k : ℕ) → of k m ≡ getD scripts k []
 
-  -- no key is named by two scripts
-  abbrev pub Disjoint : (C → ℕ) → List (List C) → Type 0
-  Disjoint key scripts = (j k : ℕ) (a b : C) → List·Memᴰ a (getD scripts j []) → List·Memᴰ b (getD scripts k []) → key a ≡ key b → j ≡ k
+  -- lines of two scripts never clash
+  abbrev pub Disjoint : (C → C → Type 0) → List (List C) → Type 0
+  Disjoint Clash scripts = (j k : ℕ) (a b : C) → List·Memᴰ a (getD scripts j []) → List·Memᴰ b (getD scripts k []) → Clash a b → j ≡ k
 
   -- every line of every script is P
   abbrev pub All-lines : (C → Type 0) → List (List C) → Type 0

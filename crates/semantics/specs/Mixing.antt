@@ -1,4 +1,4 @@
--- Where lines of different keys can change places, any two mixes of scripts that share no key agree. Over any machine. Assumes nothing.
+-- Where lines that do not clash can change places, any two mixes of scripts whose lines do not clash agree. Over any machine. Assumes nothing.
 use mathlib.Core.Path.{_≡_, refl, sym, ap, ap₂, _∙_, subst}
 use mathlib.Core.Logic.{_≢_}
 use mathlib.Core.Bool.{Bool, true, false, cond}
@@ -80,20 +80,20 @@ module _ {C : Type 0} where
           (sym (of-skip-own (t .script) (t .line) (of (t .script) m) m′ (sym (e (t .script)) ∙ of-own (t .script) t m refl)))
       go (other n) = sym (of-other k t m n) ∙ e k ∙ sym (of-skip-other k (t .script) (λ q. n (sym q)) m′)
 
-  -- ---- turns that share no key
+  -- ---- turns that do not clash
 
-  -- no key is named by two scripts of the turns
-  abbrev pub Sole : (C → ℕ) → List (Turn C) → Type 0
-  Sole key m = (j k : ℕ) (a b : C) → List·Memᴰ a (of j m) → List·Memᴰ b (of k m) → key a ≡ key b → j ≡ k
+  -- lines of two scripts of the turns never clash
+  abbrev pub Sole : (C → C → Type 0) → List (Turn C) → Type 0
+  Sole Clash m = (j k : ℕ) (a b : C) → List·Memᴰ a (of j m) → List·Memᴰ b (of k m) → Clash a b → j ≡ k
 
-  sole-tail : (key : C → ℕ) (t : Turn C) (m : List (Turn C)) → Sole key (t ∷ m) → Sole key m
-  sole-tail key t m h j k a b p q = h j k a b (of-tail j t m a p) (of-tail k t m b q)
+  sole-tail : (Clash : C → C → Type 0) (t : Turn C) (m : List (Turn C)) → Sole Clash (t ∷ m) → Sole Clash m
+  sole-tail Clash t m h j k a b p q = h j k a b (of-tail j t m a p) (of-tail k t m b q)
 
-  sole-same : (key : C → ℕ) (m m′ : List (Turn C)) → ((k : ℕ) → of k m ≡ of k m′) → Sole key m → Sole key m′
-  sole-same key m m′ e h j k a b p q = h j k a b (rw (e j) p) (rw (e k) q)
+  sole-same : (Clash : C → C → Type 0) (m m′ : List (Turn C)) → ((k : ℕ) → of k m ≡ of k m′) → Sole Clash m → Sole Clash m′
+  sole-same Clash m m′ e h j k a b p q = h j k a b (rw (e j) p) (rw (e k) q)
 
-  pub sole-mix : (key : C → ℕ) (scripts : List (List C)) (m : List (Turn C)) → Mix scripts m → Disjoint key scripts → Sole key m
-  sole-mix key scripts m mix h j k a b p q = h j k a b (rw (← mix j) p) (rw (← mix k) q)
+  pub sole-mix : (Clash : C → C → Type 0) (scripts : List (List C)) (m : List (Turn C)) → Mix scripts m → Disjoint Clash scripts → Sole Clash m
+  sole-mix Clash scripts m mix h j k a b p q = h j k a b (rw (← mix j) p) (rw (← mix k) q)
 
   -- ---- the scripts whole, one after another, are a mix of them
 
@@ -167,18 +167,18 @@ module _ {C : Type 0} where
           let z : length scripts ≤ j = omega arith in
           whole-past scripts j order z ∙ sym (List·getD-eq-default scripts [] z)
 
--- ---- machines on which lines of different keys change places
+-- ---- machines on which lines that do not clash change places
 
-module _ {S C : Type 0} (move : C → S → S) (key : C → ℕ) (moves : (a b : C) → key a ≢ key b → (s : S) → move a (move b s) ≡ move b (move a s)) where
-  -- two scripts' lines have different keys
-  differ : (t : Turn C) (m : List (Turn C)) → Sole key (t ∷ m) → (k : ℕ) → t .script ≢ k → (b : C) → List·Memᴰ b (of k m) → key b ≢ key (t .line)
+module _ {S C : Type 0} (move : C → S → S) (Clash : C → C → Type 0) (moves : (a b : C) → (Clash a b → ⊥) → (s : S) → move a (move b s) ≡ move b (move a s)) where
+  -- two scripts' lines do not clash
+  differ : (t : Turn C) (m : List (Turn C)) → Sole Clash (t ∷ m) → (k : ℕ) → t .script ≢ k → (b : C) → List·Memᴰ b (of k m) → Clash b (t .line) → ⊥
   differ t m sole k n b q e = n (sym (sole k (t .script) b (t .line) (of-tail k t m b q) (of-head t m) e))
 
   -- a script's first line may as well come first
-  pull : (k : ℕ) (x : C) (r : List C) (m : List (Turn C)) → Sole key m → of k m ≡ x ∷ r → (s : S) → last move m s ≡ last move (skip k m) (move x s)
+  pull : (k : ℕ) (x : C) (r : List C) (m : List (Turn C)) → Sole Clash m → of k m ≡ x ∷ r → (s : S) → last move m s ≡ last move (skip k m) (move x s)
   unfolding last skip of
   pull k x r [] sole e s = absurd (nil≢cons e)
-  pull k x r (t ∷ m) sole e s = go (compare (t .script) k) e (pull k x r m (sole-tail key t m sole))
+  pull k x r (t ∷ m) sole e s = go (compare (t .script) k) e (pull k x r m (sole-tail Clash t m sole))
     where
       go : {y : Bool} → Same (t .script) k y → cond y (t .line ∷ of k m) (of k m) ≡ x ∷ r
           → (of k m ≡ x ∷ r → (z : S) → last move m z ≡ last move (skip k m) (move x z))
@@ -189,22 +189,22 @@ module _ {S C : Type 0} (move : C → S → S) (key : C → ℕ) (moves : (a b :
           ∙ ap (last move (skip k m)) (moves x (t .line) (differ t m sole k n x (rw q (List·Memᴰ·head refl))) s)
 
   -- two mixes of the same scripts end in the same state
-  pub ends : (m m′ : List (Turn C)) → Sole key m → ((k : ℕ) → of k m ≡ of k m′) → (s : S) → last move m s ≡ last move m′ s
+  pub ends : (m m′ : List (Turn C)) → Sole Clash m → ((k : ℕ) → of k m ≡ of k m′) → (s : S) → last move m s ≡ last move m′ s
   unfolding last of
   ends [] [] sole e s = refl
   ends [] (t ∷ m′) sole e s = absurd (nil≢cons (e (t .script) ∙ of-own (t .script) t m′ refl))
   ends (t ∷ m) m′ sole e s =
-      ends m (skip (t .script) m′) (sole-tail key t m sole) (of-rest t m m′ e) (move (t .line) s)
-      ∙ sym (pull (t .script) (t .line) (of (t .script) m) m′ (sole-same key (t ∷ m) m′ e sole) (sym (e (t .script)) ∙ of-own (t .script) t m refl) s)
+      ends m (skip (t .script) m′) (sole-tail Clash t m sole) (of-rest t m m′ e) (move (t .line) s)
+      ∙ sym (pull (t .script) (t .line) (of (t .script) m) m′ (sole-same Clash (t ∷ m) m′ e sole) (sym (e (t .script)) ∙ of-own (t .script) t m refl) s)
 
-  module _ {R : Type 0} (say : C → S → R) (says : (a b : C) → key a ≢ key b → (s : S) → say a (move b s) ≡ say a s) where
+  module _ {R : Type 0} (say : C → S → R) (says : (a b : C) → (Clash a b → ⊥) → (s : S) → say a (move b s) ≡ say a s) where
     -- what a script hears by itself
     alone : List C → S → List R
     alone [] s = []
     alone (c ∷ l) s = say c s ∷ alone l (move c s)
 
-    -- a line of another key is not felt by a script
-    unfelt : (l : List C) (c : C) → ((b : C) → List·Memᴰ b l → key b ≢ key c) → (s : S) → alone l (move c s) ≡ alone l s
+    -- a line that clashes with none of its own is not felt by a script
+    unfelt : (l : List C) (c : C) → ((b : C) → List·Memᴰ b l → Clash b c → ⊥) → (s : S) → alone l (move c s) ≡ alone l s
     unfolding alone
     unfelt [] c h s = refl
     unfelt (b ∷ l) c h s =
@@ -212,10 +212,10 @@ module _ {S C : Type 0} (move : C → S → S) (key : C → ℕ) (moves : (a b :
         (ap (alone l) (moves b c (h b (List·Memᴰ·head refl)) s) ∙ unfelt l c (λ a p. h a (List·Memᴰ·tail p)) (move b s))
 
     -- each script hears what it hears by itself
-    heard-alone : (m : List (Turn C)) → Sole key m → (k : ℕ) (s : S) → answers move say k m s ≡ alone (of k m) s
+    heard-alone : (m : List (Turn C)) → Sole Clash m → (k : ℕ) (s : S) → answers move say k m s ≡ alone (of k m) s
     unfolding alone answers of
     heard-alone [] sole k s = refl
-    heard-alone (t ∷ m) sole k s = go (compare (t .script) k) (heard-alone m (sole-tail key t m sole) k (move (t .line) s))
+    heard-alone (t ∷ m) sole k s = go (compare (t .script) k) (heard-alone m (sole-tail Clash t m sole) k (move (t .line) s))
       where
         go : {x : Bool} → Same (t .script) k x → answers move say k m (move (t .line) s) ≡ alone (of k m) (move (t .line) s)
             → cond x (say (t .line) s ∷ answers move say k m (move (t .line) s)) (answers move say k m (move (t .line) s)) ≡ alone (cond x (t .line ∷ of k m) (of k m)) s
@@ -223,13 +223,13 @@ module _ {S C : Type 0} (move : C → S → S) (key : C → ℕ) (moves : (a b :
         go (other n) ih = ih ∙ unfelt (of k m) (t .line) (differ t m sole k n) s
 
     -- any two mixes of the scripts agree
-    pub mixing : (scripts : List (List C)) → Disjoint key scripts → (m m′ : List (Turn C)) → Mix scripts m → Mix scripts m′ → (s : S) → Agree move say m m′ s
+    pub mixing : (scripts : List (List C)) → Disjoint Clash scripts → (m m′ : List (Turn C)) → Mix scripts m → Mix scripts m′ → (s : S) → Agree move say m m′ s
     mixing scripts apart m m′ p q s =
         let e : (k : ℕ) → of k m ≡ of k m′ = λ k. p k ∙ sym (q k) in
-        let u : Sole key m = sole-mix key scripts m p apart in
+        let u : Sole Clash m = sole-mix Clash scripts m p apart in
         record {
           end = ends m m′ u e s;
-          each = λ k. heard-alone m u k s ∙ ap (λ (l : List C). alone l s) (e k) ∙ sym (heard-alone m′ (sole-mix key scripts m′ q apart) k s);
+          each = λ k. heard-alone m u k s ∙ ap (λ (l : List C). alone l s) (e k) ∙ sym (heard-alone m′ (sole-mix Clash scripts m′ q apart) k s);
         }
 
 -- ---- a machine that does what another does, seen through f, while Inv holds of the turns to come and the state

@@ -89,8 +89,8 @@ module _ {ns : List ℕ} {xs : List (List ℕ)} {t : List ℕ} (u : Run ns xs t)
   pub read : take (getD ns k 0) (drop (start k ns) t) ≡ getD xs k []
   read = part whole
 
-  pub word : (i : ℕ) → i < getD ns k 0 → getD t (start k ns + i) 0 ≡ getD (getD xs k []) i 0
-  word i j =
+  pub word-read : (i : ℕ) → i < getD ns k 0 → getD t (start k ns + i) 0 ≡ getD (getD xs k []) i 0
+  word-read i j =
       rw (whole .is, ← (whole .starts), getD-append-add (cat (take k xs)) (getD xs k [] ++ cat (drop (suc k) xs)) i 0)
       (List·getD-append (getD xs k []) (cat (drop (suc k) xs)) 0 i (omega (arith, whole .long)))
 

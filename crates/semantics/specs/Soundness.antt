@@ -5,32 +5,28 @@ use mathlib.Core.Logic.{_≢_}
 use mathlib.Core.Bool.{true}
 use mathlib.Core.List.{List}
 use Prim.Native.Nat.{ℕ, _+_, _*_, _/_, _%_, _≤_, _<_}
-use lib.ListN.{length, getD}
-use Rattle.nodes.specs.Sets.{node-limit, has}
+use lib.ListN.{length}
+use Rattle.nodes.specs.Sets.{node-limit, has, word-at}
 use Rattle.entries.specs.Entries.{half-word, host}
 use Rattle.semantics.specs.Sizes.{group-limit, group-names, contents-at, members-at, links-at, free-at, bodies-at, table-words}
 
 -- ---- the words by their meaning
 
--- the word at k
-abbrev pub word : List ℕ → ℕ → ℕ
-word t k = getD t k 0
-
 -- the roster size N
 abbrev pub size-of : List ℕ → ℕ
-size-of t = word t 0
+size-of t = word-at t 0
 
 -- the set of hidden nodes
 abbrev pub hidden-of : List ℕ → ℕ
-hidden-of t = word t 1
+hidden-of t = word-at t 1
 
 -- the number G of s_groups
 abbrev pub count-of : List ℕ → ℕ
-count-of t = word t 2
+count-of t = word-at t 2
 
 -- the contents word of group g
 abbrev pub contents-of : List ℕ → ℕ → ℕ
-contents-of t g = word t (contents-at + g)
+contents-of t g = word-at t (contents-at + g)
 
 -- the name of group g
 abbrev pub name-of : List ℕ → ℕ → ℕ
@@ -42,19 +38,19 @@ names-of t g = contents-of t g / group-names
 
 -- the members of group g
 abbrev pub members-of : List ℕ → ℕ → ℕ
-members-of t g = word t (members-at + g)
+members-of t g = word-at t (members-at + g)
 
 -- the connections of node i
 abbrev pub links-of : List ℕ → ℕ → ℕ
-links-of t i = word t (links-at + i)
+links-of t i = word-at t (links-at + i)
 
 -- the free normal group of node i
 abbrev pub free-of : List ℕ → ℕ → ℕ
-free-of t i = word t (free-at + i)
+free-of t i = word-at t (free-at + i)
 
 -- word k of the names of group g
 abbrev pub entry-of : ℕ → List ℕ → ℕ → ℕ → ℕ
-entry-of cap t g k = word t (bodies-at + (cap * g + k))
+entry-of cap t g k = word-at t (bodies-at + (cap * g + k))
 
 -- the process name in it
 abbrev pub process-of : ℕ → List ℕ → ℕ → ℕ → ℕ
@@ -104,7 +100,7 @@ pub record Sound (cap : ℕ) (t : List ℕ) : Type 0 where
   pub links-within : (i : ℕ) → i < size-of t → On-roster t (links-of t i)
   pub free-within : (i : ℕ) → i < size-of t → On-roster t (free-of t i)
   -- every unused word is zero
-  pub spare-zero : word t 3 ≡ 0
+  pub spare-zero : word-at t 3 ≡ 0
   pub contents-zero : (g : ℕ) → count-of t ≤ g → g < group-limit → contents-of t g ≡ 0
   pub members-zero : (g : ℕ) → count-of t ≤ g → g < group-limit → members-of t g ≡ 0
   pub links-zero : (i : ℕ) → size-of t ≤ i → i < node-limit → links-of t i ≡ 0

@@ -298,9 +298,9 @@ abbrev pub own-list : ℕ → List Group → List ℕ
 own-list i [] = []
 own-list i (g ∷ gs) = cond (has (g .members) i) (g .name ∷ g .members ∷ own-list i gs) (own-list i gs)
 
--- an outcome that changes nothing
-abbrev pub told : Outcome → State → Result
-told o st = record { answer = o .answer; list = o .list; next = st }
+-- an outcome that only reads
+abbrev pub read-only : Outcome → State → Result
+read-only o st = record { answer = o .answer; list = o .list; next = st }
 
 -- from reason 5 on
 unfoldable pub rule : ℕ → ℕ → Command → State → Result
@@ -330,7 +330,7 @@ rule room i (DeleteSGroup s) st =
     (for-member i (find s (st .groups)) st (λ g.
     reply True Done (become-free (g .members) (drop-group s (st .groups)) st)))
 rule room i OwnNodes st = reply (Nodes (own-set i st) (count (own-set i st))) Done st
-rule room i OwnSGroups st = told (listed room (own-list i (st .groups))) st
+rule room i OwnSGroups st = read-only (listed room (own-list i (st .groups))) st
 
 -- reason 4 stands before all; room is how many words the run for a list has, i is the caller
 unfoldable pub step : ℕ → ℕ → Command → State → Result

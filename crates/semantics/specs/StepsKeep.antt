@@ -105,9 +105,10 @@ kept-inside room i (new-s-group s set) {st} w b ok =
     by-case (not (has set i)) (λ y. record { regular = w }) λ y.
     by-case (held (find s (st .groups))) (λ z. record { regular = w }) λ z.
     by-case (leb group-limit (length (st .groups))) (λ u. record { regular = w }) λ u.
-    let named = neither (eqb s 0) (leb group-names s) ok in
+    let named = neither (eqb s 0) (leb _ s) ok in
+    let low : s < group-names = omega (arith, leb-false _ s (named .1)) in
     record {
-      regular = regular-create w s (not-held (find s (st .groups)) z) (positive (named .0)) (leb-false group-names s (named .1))
+      regular = regular-create w s (not-held (find s (st .groups)) z) (positive (named .0)) low
           (leb-false group-limit (length (st .groups)) u) set (leb-false (2 ^ (st .size)) set x) (inhabited set i y);
     }
 

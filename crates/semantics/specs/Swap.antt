@@ -1,7 +1,7 @@
--- Isolation and the swap law, on any state: a line feels no s_group but its own, and two lines that name different ones can change places.
+-- Isolation and the swap law, on any state: a line feels no s_group but its own, and two lines that do not name one s_group can change places.
 -- Assumes nothing.
 use mathlib.Core.Path.{_≡_, refl, sym, ap, ap₂, _∙_}
-use mathlib.Core.Logic.{_≢_}
+use mathlib.Core.Logic.{_≢_, ⊎-elim}
 use mathlib.Core.Bool.{Bool, true, false, cond, true≢false}
 use mathlib.Core.Option.{Option, none, some}
 use Prim.Native.Nat.{ℕ, _+_, _≤_, _<_}
@@ -10,16 +10,18 @@ use lib.Dec.{leb}
 use lib.ListN.{length}
 use borrow.Author.Tests.{lt-leb}
 use Rattle.nodes.specs.Sets.{has}
+use Rattle.nodes.specs.Bools.{by-test}
 use Rattle.semantics.specs.Sizes.{group-limit}
 use Rattle.semantics.specs.State.{Group, State, find}
 use Rattle.semantics.specs.GroupCommands.{GroupCommand, register-name, re-register-name, unregister-name, whereis-name, registered-names, add-nodes, new-s-group}
 use Rattle.semantics.specs.Ranges.{bad-group}
-use Rattle.semantics.specs.Steps.{Result, Effect, Outcome, target, creates, say, as-member, inside, outcome, apply, settle, group-step}
+use Rattle.semantics.specs.Steps.{Result, Effect, keep, Outcome, target, creates, say, as-member, inside, outcome, apply, settle, group-step}
 use Rattle.semantics.specs.Effects.{apply-comm, find-apply-other, size-apply, made, made-one, length-apply}
 use Rattle.semantics.specs.Within.{step-within}
-use Rattle.semantics.specs.Lines.{Said, Line, key, said-by-step, step-of, step-move, step-say, cost, Room-for}
+use Rattle.semantics.specs.Lines.{Said, Line, key, Same-group, said-by-step, step-of, step-say, cost, Room-for}
 use Rattle.answers.specs.declared.Value.{Value}
-use Rattle.answers.specs.declared.Reason.the-variants.{NotMember}
+use Rattle.answers.specs.declared.Value.the-variants.{Error}
+use Rattle.answers.specs.declared.Reason.the-variants.{CallerUnknown, GroupNameRange, NotMember}
 
 -- ---- isolation: a line that makes no s_group feels the roster's size and its own s_group alone
 
@@ -126,38 +128,44 @@ grows l st = go (creates (l .command)) refl
 
 -- ---- the swap law
 
+-- a line without an s_group's name sees the roster's size alone, and makes nothing
+nameless : (l : Line) (st st′ : State) → bad-group (key l) ≡ true → st .size ≡ st′ .size → (seen l st ≡ seen l st′) × (seen l st .effect ≡ keep)
+unfolding seen outcome
+nameless l st st′ e p = rw (e, p) (refl, go (leb (st′ .size) (l .caller)))
+  where
+    go : (x : Bool) → cond x (say Error CallerUnknown) (say Error GroupNameRange) .effect ≡ keep
+    go true = refl
+    go false = refl
+
+-- what is said and done of the lines a and b, where a has an s_group's name and where not
+by-name : (a b : Line) → (Same-group a b → ⊥) → (P : Type 0) → (bad-group (key a) ≡ true → P) → (key a ≢ key b → P) → P
+by-name a b h P bad good = ⊎-elim bad (λ (e : bad-group (key a) ≡ false). good (λ q. h (e, q))) (by-test (bad-group (key a)))
+
+-- no effect, no change
+kept : (s : ℕ) (st : State) → apply s keep st ≡ st
+unfolding apply
+kept s st = refl
+
 -- an effect on another s_group changes nothing of what a line sees
 unseen : (l : Line) (t : ℕ) (e : Effect) (st : State) → key l ≢ t → seen l (apply t e st) ≡ seen l st
 unfolding seen
 unseen l t e st h = ap₂ (λ (n : ℕ) (f : Option Group). outcome (l .room) n 0 (l .caller) (l .command) f) (size-apply t e st) (find-apply-other h e st)
 
-pub swap-moves : (a b : Line) → key a ≢ key b → (st : State) → unbounded a (unbounded b st .next) .next ≡ unbounded b (unbounded a st .next) .next
+pub swap-moves : (a b : Line) → (Same-group a b → ⊥) → (st : State) → unbounded a (unbounded b st .next) .next ≡ unbounded b (unbounded a st .next) .next
 unfolding unbounded
 swap-moves a b h st =
-    ap (λ (o : Outcome). apply (key a) (o .effect) (apply (key b) (seen b st .effect) st)) (unseen a (key b) (seen b st .effect) st h)
-    ∙ apply-comm h (seen a st .effect) (seen b st .effect) st
-    ∙ sym (ap (λ (o : Outcome). apply (key b) (o .effect) (apply (key a) (seen a st .effect) st)) (unseen b (key a) (seen a st .effect) st (λ e. h (sym e))))
+    by-name a b h _
+    (λ e.
+    ap (λ (f : Effect). apply (key a) f (unbounded b st .next)) (nameless a (unbounded b st .next) st e (size-apply (key b) (seen b st .effect) st) .1)
+    ∙ kept (key a) (unbounded b st .next)
+    ∙ sym (ap (λ (s : State). unbounded b s .next) (ap (λ (f : Effect). apply (key a) f st) (nameless a st st e refl .1) ∙ kept (key a) st)))
+    (λ n.
+    ap (λ (o : Outcome). apply (key a) (o .effect) (apply (key b) (seen b st .effect) st)) (unseen a (key b) (seen b st .effect) st n)
+    ∙ apply-comm n (seen a st .effect) (seen b st .effect) st
+    ∙ sym (ap (λ (o : Outcome). apply (key b) (o .effect) (apply (key a) (seen a st .effect) st)) (unseen b (key a) (seen a st .effect) st (λ e. n (sym e)))))
 
-pub swap-says : (a b : Line) → key a ≢ key b → (st : State) → said-by-step (unbounded a (unbounded b st .next)) ≡ said-by-step (unbounded a st)
+pub swap-says : (a b : Line) → (Same-group a b → ⊥) → (st : State) → said-by-step (unbounded a (unbounded b st .next)) ≡ said-by-step (unbounded a st)
 unfolding unbounded
-swap-says a b h st = ap said-in (unseen a (key b) (seen b st .effect) st h)
-
--- two lines can change places: the last state is the same, and each hears the same first or second
-pub record Swaps (a b : Line) (st : State) : Type 0 where
-  pub last : step-move b (step-move a st) ≡ step-move a (step-move b st)
-  pub first : step-say a (step-move b st) ≡ step-say a st
-  pub second : step-say b (step-move a st) ≡ step-say b st
-
-pub swap : (a b : Line) (st : State) → key a ≢ key b → Room-for (cost a + cost b) st → Swaps a b st
-swap a b st h room =
-    let ua : step-of a st ≡ unbounded a st = step-unbounded a st (λ z. omega (arith, room (λ y. z (omega arith)))) in
-    let ub : step-of b st ≡ unbounded b st = step-unbounded b st (λ z. omega (arith, room (λ y. z (omega arith)))) in
-    let wa : step-of a (unbounded b st .next) ≡ unbounded a (unbounded b st .next) =
-    step-unbounded a (unbounded b st .next) (λ z. omega (arith, room (λ y. z (omega arith)), grows b st)) in
-    let wb : step-of b (unbounded a st .next) ≡ unbounded b (unbounded a st .next) =
-    step-unbounded b (unbounded a st .next) (λ z. omega (arith, room (λ y. z (omega arith)), grows a st)) in
-    record {
-      last = cc (swap-moves b a (λ e. h (sym e)) st);
-      first = cc (swap-says a b h st);
-      second = cc (swap-says b a (λ e. h (sym e)) st);
-    }
+swap-says a b h st =
+    ap said-in
+    (by-name a b h _ (λ e. nameless a (unbounded b st .next) st e (size-apply (key b) (seen b st .effect) st) .0) (unseen a (key b) (seen b st .effect) st))

@@ -13,7 +13,7 @@ use Rattle.semantics.specs.Table.{pad, contents, bodies, sections, layou
 use Rattle.semantics.specs.Soundness.{size-of, hidden-of, count-of, contents-of, members-of, links-of, free-of}
 use Rattle.semantics.specs.Padding.{length-pad, getD-pad}
 use Rattle.semantics.specs.Bodies.{length-bodies}
-use Rattle.semantics.specs.Sections.{Sizes, Run, run-length, read, word, lend}
+use Rattle.semantics.specs.Sections.{Sizes, Run, run-length, read, word-read, lend}
 
 -- how many words each section has
 abbrev pub sizes : ℕ → List ℕ
@@ -62,41 +62,41 @@ module _ {cap : ℕ} {st : State} {t : List ℕ} (l : Laid cap st t) where
 
   pub size-is : size-of t ≡ st .size
   unfolding sections
-  size-is = word (l .run) 0 (lit< tt) 0 (lit< tt)
+  size-is = word-read (l .run) 0 (lit< tt) 0 (lit< tt)
 
   pub hidden-is : hidden-of t ≡ st .hidden
   unfolding sections
-  hidden-is = word (l .run) 0 (lit< tt) 1 (lit< tt)
+  hidden-is = word-read (l .run) 0 (lit< tt) 1 (lit< tt)
 
   pub count-is : count-of t ≡ length (st .groups)
   unfolding sections
-  count-is = word (l .run) 0 (lit< tt) 2 (lit< tt)
+  count-is = word-read (l .run) 0 (lit< tt) 2 (lit< tt)
 
   pub spare-is : getD t 3 0 ≡ 0
   unfolding sections
-  spare-is = word (l .run) 0 (lit< tt) 3 (lit< tt)
+  spare-is = word-read (l .run) 0 (lit< tt) 3 (lit< tt)
 
   -- ---- one word
 
   pub contents-word : (g : ℕ) → g < group-limit → contents-of t g ≡ getD (map contents (st .groups)) g 0
   unfolding sections
-  contents-word g h = word (l .run) 1 (lit< tt) g h ∙ getD-pad group-limit (map contents (st .groups)) g
+  contents-word g h = word-read (l .run) 1 (lit< tt) g h ∙ getD-pad group-limit (map contents (st .groups)) g
 
   pub members-word : (g : ℕ) → g < group-limit → members-of t g ≡ getD (map (λ x. x .members) (st .groups)) g 0
   unfolding sections
-  members-word g h = word (l .run) 2 (lit< tt) g h ∙ getD-pad group-limit (map (λ x. x .members) (st .groups)) g
+  members-word g h = word-read (l .run) 2 (lit< tt) g h ∙ getD-pad group-limit (map (λ x. x .members) (st .groups)) g
 
   pub links-word : (i : ℕ) → i < node-limit → links-of t i ≡ getD (st .links) i 0
   unfolding sections
-  links-word i h = word (l .run) 3 (lit< tt) i h
+  links-word i h = word-read (l .run) 3 (lit< tt) i h
 
   pub free-word : (i : ℕ) → i < node-limit → free-of t i ≡ getD (st .free) i 0
   unfolding sections
-  free-word i h = word (l .run) 4 (lit< tt) i h
+  free-word i h = word-read (l .run) 4 (lit< tt) i h
 
   pub body-word : (k : ℕ) → k < group-limit * cap → getD t (bodies-at + k) 0 ≡ getD (bodies cap (st .groups)) k 0
   unfolding sections
-  body-word k h = word (l .run) 5 (lit< tt) k h ∙ getD-pad (group-limit * cap) (bodies cap (st .groups)) k
+  body-word k h = word-read (l .run) 5 (lit< tt) k h ∙ getD-pad (group-limit * cap) (bodies cap (st .groups)) k
 
   -- ---- a section read
 

@@ -8,13 +8,14 @@ use native.Mathlib.Nat.{add-assoc}
 use native.Mathlib.Omega.{arith}
 use lib.ListN.{length, getD, drop, length-drop, List·getD-eq-default}
 use lib.Seq.{getD-take, getD-drop, length-take-le, ext-getD}
+use Rattle.nodes.specs.Sets.{word-at}
 use Rattle.entries.specs.Entries.{Entry, half-word, host, word-of, words, entries}
 use Rattle.entries.specs.NamespaceSound.{Stored}
 use Rattle.entries.specs.Storage.{length-words, length-entries, word-of-entry, sound-words-iff}
 use Rattle.nodes.specs.Bools.{by-lt}
 use mathlib.Core.Logic.{⊎-elim}
 use Rattle.semantics.specs.Sizes.{bodies-at}
-use Rattle.semantics.specs.Soundness.{word, names-of, entry-of, process-of, pid-of}
+use Rattle.semantics.specs.Soundness.{names-of, entry-of, process-of, pid-of}
 use Rattle.semantics.specs.EntryPlaces.{Climbing, no-entry, entry-at, words-at, entries-at, climbing-iff, distinct-iff, hosted-iff}
 use Rattle.groups_test.specs.GroupTests.{body, names-right}
 
@@ -35,7 +36,7 @@ module _ (cap : ℕ) (t : List ℕ) (n g : ℕ) (inside : bodies-at + cap * g + 
   long = length-take-le cap (drop (bodies-at + cap * g) t) (simp length-drop (omega arith))
 
   word-is : (k : ℕ) → k < cap → getD ws k 0 ≡ entry-of cap t g k
-  word-is k h = getD-take cap (drop (bodies-at + cap * g) t) k 0 h ∙ getD-drop (bodies-at + cap * g) t k 0 ∙ ap (word t) (add-assoc bodies-at (cap * g) k)
+  word-is k h = getD-take cap (drop (bodies-at + cap * g) t) k 0 h ∙ getD-drop (bodies-at + cap * g) t k 0 ∙ ap (word-at t) (add-assoc bodies-at (cap * g) k)
 
   abbrev es : List Entry
   es = entries (names-of t g) ws

@@ -12,7 +12,7 @@ use borrow.Author.Tests.{eqb-true, eq-eqb, ltb-true, lt-ltb, not-true}
 use Rattle.nodes.specs.Sets.{node-limit, has, empty, roster, diff, union-all, word-at}
 use Rattle.nodes.specs.SetLaws.{has-diff, has-roster, below-pow, union-all-in, union-all-out}
 use Rattle.semantics.specs.Sizes.{group-limit, names-per-group, contents-at, members-at, links-at, free-at, bodies-at, table-words}
-use Rattle.semantics.specs.Soundness.{word, size-of, hidden-of, count-of, name-of, members-of, links-of, free-of, entry-of, In, Free-normal, Sound}
+use Rattle.semantics.specs.Soundness.{size-of, hidden-of, count-of, name-of, members-of, links-of, free-of, entry-of, In, Free-normal, Sound}
 use Rattle.semantics.specs.Truth.{unless}
 use Rattle.free_test.specs.WireTests.{all-below, all-zero, links-sound, free-sound}
 use Rattle.free_test.specs.Below.{tests, below-iff, within-iff}
@@ -28,7 +28,7 @@ loose-of t = diff (diff (roster (size-of t)) (hidden-of t)) (union-all (take (co
 
 -- every part of a run of the table's length passes
 pub record Right (cap : ℕ) (t : List ℕ) : Type 0 where
-  pub head : head-right (size-of t) (hidden-of t) (count-of t) (word t 3) ≡ true
+  pub head : head-right (size-of t) (hidden-of t) (count-of t) (word-at t 3) ≡ true
   pub contents : all-below (count-of t) (contents-right cap t) ≡ true
   pub members : all-below (count-of t) (members-right t (size-of t)) ≡ true
   pub unused : unused-zero cap t (count-of t) ≡ true
@@ -43,17 +43,17 @@ module _ (t : List ℕ) (a b : ℕ) where
   length-part : b ≤ length t → length (part t a b) ≡ b - a
   length-part h = length-take-le (b - a) (drop a t) (simp length-drop (omega arith))
 
-  part-word : (i : ℕ) → i < b - a → getD (part t a b) i 0 ≡ word t (a + i)
+  part-word : (i : ℕ) → i < b - a → getD (part t a b) i 0 ≡ word-at t (a + i)
   part-word i h = getD-take (b - a) (drop a t) i 0 h ∙ getD-drop a t i 0
 
   -- a part is zero where each of its words is
-  zero-iff : b ≤ length t → (all-zero (part t a b) ≡ true) ↔ ((k : ℕ) → a ≤ k → k < b → word t k ≡ 0)
+  zero-iff : b ≤ length t → (all-zero (part t a b) ≡ true) ↔ ((k : ℕ) → a ≤ k → k < b → word-at t k ≡ 0)
   unfolding all-zero
   zero-iff h = (
     λ e k l u.
         let q : k ≡ a + (k - a) = omega arith in
         let i : k - a < b - a = omega arith in
-        ap (word t) q ∙ sym (part-word (k - a) i) ∙ eqb-true _ _ (below-iff (length (part t a b)) (λ j. empty (word-at (part t a b) j)) .0 e (k - a) (omega (arith, length-part h))),
+        ap (word-at t) q ∙ sym (part-word (k - a) i) ∙ eqb-true _ _ (below-iff (length (part t a b)) (λ j. empty (word-at (part t a b) j)) .0 e (k - a) (omega (arith, length-part h))),
     λ z.
         below-iff (length (part t a b)) (λ j. empty (word-at (part t a b) j)) .1 λ i l.
         let u : i < b - a = omega (arith, length-part h) in
@@ -129,7 +129,7 @@ module _ (t : List ℕ) (long : length t ≡ table-words names-per-group) where
     λ e g k l m b. zero-iff t (bodies-at + names-per-group * G) (table-words names-per-group) (omega arith) .0 e (bodies-at + (names-per-group * g + k)) (omega arith) (omega arith),
     λ z. zero-iff t (bodies-at + names-per-group * G) (table-words names-per-group) (omega arith) .1 λ k l m.
         let e : bodies-at + (names-per-group * ((k - bodies-at) / names-per-group) + (k - bodies-at) % names-per-group) ≡ k = omega arith in
-        ap (word t) (sym e) ∙ z ((k - bodies-at) / names-per-group) ((k - bodies-at) % names-per-group) (omega arith) (omega arith) (omega arith),
+        ap (word-at t) (sym e) ∙ z ((k - bodies-at) / names-per-group) ((k - bodies-at) % names-per-group) (omega arith) (omega arith) (omega arith),
   )
 
   module _ (few : count-of t ≤ group-limit) where
@@ -206,11 +206,11 @@ module _ (t : List ℕ) (long : length t ≡ table-words names-per-group) where
         unused = simp tests (
           zero-iff t (contents-at + count-of t) members-at (omega arith) .1 (λ k a b.
               let e : k ≡ contents-at + (k - contents-at) = omega arith in
-              ap (word t) e ∙ s .contents-zero (k - contents-at) (omega arith) (omega arith)),
+              ap (word-at t) e ∙ s .contents-zero (k - contents-at) (omega arith) (omega arith)),
           (
             zero-iff t (members-at + count-of t) links-at (omega arith) .1 (λ k a b.
                 let e : k ≡ members-at + (k - members-at) = omega arith in
-                ap (word t) e ∙ s .members-zero (k - members-at) (omega arith) (omega arith)),
+                ap (word-at t) e ∙ s .members-zero (k - members-at) (omega arith) (omega arith)),
             bodies-iff (count-of t) (s .count-range) .1 (s .bodies-zero),
           ),
         );

@@ -6,10 +6,10 @@ use mathlib.Core.List.{List}
 use Prim.Native.Nat.{ℕ, _≤_, min}
 use native.Mathlib.Omega.{arith}
 use lib.ListN.{length, take}
-use Rattle.nodes.specs.Sets.{node-limit, roster, diff, union-all}
+use Rattle.nodes.specs.Sets.{node-limit, roster, diff, union-all, word-at}
 use Rattle.nodes.specs.Bools.{test-ext}
 use Rattle.semantics.specs.Sizes.{group-limit, names-per-group, table-words}
-use Rattle.semantics.specs.Soundness.{word, size-of, hidden-of, count-of}
+use Rattle.semantics.specs.Soundness.{size-of, hidden-of, count-of}
 use Rattle.semantics.specs.Test.{sound}
 use Rattle.semantics.specs.Agree.{sound-iff}
 use Rattle.semantics.specs.Truth.{unless}
@@ -23,7 +23,7 @@ pub record Small (t : List ℕ) : Type 0 where
   pub size : size-of t ≤ node-limit
   pub count : count-of t ≤ group-limit
 
-pub small : (t : List ℕ) → head-right (size-of t) (hidden-of t) (count-of t) (word t 3) ≡ true → Small t
+pub small : (t : List ℕ) → head-right (size-of t) (hidden-of t) (count-of t) (word-at t 3) ≡ true → Small t
 small t e = let h = simp tests at e in record { size = h .1 .0; count = h .1 .1 .0 }
 
 -- a run of another length is no sound table
@@ -32,10 +32,10 @@ wrong-length t n = sym (unless _ (λ e. n (sound-iff names-per-group t .0 e .lon
 
 module _ (t : List ℕ) (long : length t ≡ table-words names-per-group) where
   -- nor is one whose head is not right
-  pub wrong-head : head-right (size-of t) (hidden-of t) (count-of t) (word t 3) ≡ false → false ≡ sound names-per-group t
+  pub wrong-head : head-right (size-of t) (hidden-of t) (count-of t) (word-at t 3) ≡ false → false ≡ sound names-per-group t
   wrong-head e = sym (unless _ (λ h. true≢false (sym (sound-right t long (sound-iff names-per-group t .0 h) .head) ∙ e)))
 
-  module _ (head : head-right (size-of t) (hidden-of t) (count-of t) (word t 3) ≡ true) where
+  module _ (head : head-right (size-of t) (hidden-of t) (count-of t) (word-at t 3) ≡ true) where
     loose-same : loose-in t (count-of t) (size-of t) ≡ loose-of t
     loose-same =
         let e : min (size-of t) node-limit ≡ size-of t = omega (arith, small t head .size) in

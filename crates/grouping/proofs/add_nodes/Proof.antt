@@ -26,11 +26,11 @@ found c =
 few : (c : tie.After-known-told2) → c .before .at .given .0 .0 < group-limit
 few c = let p = c .before .before .before .before .before .before .before .before .before .before in seat-few (p .args .t .now) (p .pre .1) (found c .seat)
 
-slice-read-set-reason : tie.Need-slice-read-set-reason
-slice-read-set-reason c = search needs
+slice-read-size : tie.Need-slice-read-size
+slice-read-size c = search needs
 
-cast-set-reason : tie.Need-cast-set-reason
-cast-set-reason c = let p = c .before .before in omega (arith, nodes-few (p .args .t .now) (p .pre .1))
+cast-size : tie.Need-cast-size
+cast-size c = let p = c .before .before in omega (arith, nodes-few (p .args .t .now) (p .pre .1))
 
 set-reason-requires : tie.Need-set-reason-requires
 set-reason-requires c κs = search needs
@@ -38,18 +38,24 @@ set-reason-requires c κs = search needs
 enum-told : tie.Need-enum-told
 enum-told c = search needs
 
+refused-requires : tie.Need-refused-requires
+refused-requires c κs = search needs
+
 returns : tie.Need-returns
 unfolding state-of
 returns c =
-    let p = c .before .before .before .before in
-    says-kept (p .args .t .now) (p .pre .1)
-    (refused (step-add 0 (p .args .caller) (here (p .args .t .now)) (p .args .s) (p .args .set) .judging) (c .before .set-reason .ensures) (not-done (c .before .set-reason .result) (c .match .keys2)))
+    let p = c .before .before .before .before .before in
+    rw (c .refused .ensures) (says-kept (p .args .t .now) (p .pre .1)
+    (refused (step-add 0 (p .args .caller) (here (p .args .t .now)) (p .args .s) (p .args .set) .judging) (c .before .before .set-reason .ensures) (not-done (c .before .before .set-reason .result) (c .before .match .keys2))))
 
 place-for-requires : tie.Need-place-for-requires
 place-for-requires c κs = search needs
 
 enum-known-denial : tie.Need-enum-known-denial
 enum-known-denial c = search needs
+
+refused-requires-2 : tie.Need-refused-requires-2
+refused-requires-2 c κs = search needs
 
 enum-known-at : tie.Need-enum-known-at
 enum-known-at c = search needs
@@ -75,18 +81,21 @@ interconnect-requires c κs = search needs
 set-members-requires : tie.Need-set-members-requires
 set-members-requires c κs = (search needs, few (c .before .before .before .before .before .before .before .before .before .before .before))
 
+done-requires : tie.Need-done-requires
+done-requires c κs = search needs
+
 same-length : tie.Need-same-length
 same-length c = search needs
 
 returns-2 : tie.Need-returns-2
 unfolding state-of
 returns-2 c =
-    let p = c .before .before .before .before .before .before .before .before .before .before in
+    let p = c .before .before .before .before .before .before .before .before .before .before .before in
     let t = p .args .t .now in
-    let f = c .before .before .before .place-for in
-    says-kept t (p .pre .1)
-    (denied (step-add 0 (p .args .caller) (here t) (p .args .s) (p .args .set)) (c .before .before .before .before .before .before .before .set-reason .ensures) (c .before .before .before .before .before .enum-told .given .1)
-    (granted-here t (p .pre .1) (p .args .caller) (p .args .s) (f .result) (Denied (c .before .denial .given .0 .0)) (f .ensures) (c .before .denial .given .1)))
+    let f = c .before .before .before .before .place-for in
+    rw (c .refused2 .ensures) (says-kept t (p .pre .1)
+    (denied (step-add 0 (p .args .caller) (here t) (p .args .s) (p .args .set)) (c .before .before .before .before .before .before .before .before .set-reason .ensures) (c .before .before .before .before .before .before .enum-told .given .1)
+    (granted-here t (p .pre .1) (p .args .caller) (p .args .s) (f .result) (Denied (c .before .before .denial .given .0 .0)) (f .ensures) (c .before .before .denial .given .1))))
 
 same-length-2 : tie.Need-same-length-2
 same-length-2 c = search needs
@@ -94,29 +103,31 @@ same-length-2 c = search needs
 returns-3 : tie.Need-returns-3
 unfolding state-of
 returns-3 c =
-    let m = c .before .before .set-members in
-    let i = c .before .before .before .before .before .before .interconnect in
-    let l = c .before .before .before .before .before .before .before .before .before .before .leave-free in
-    let u = c .before .before .before .before .before .before .before .before .before .before .before .before .union in
-    let k = c .before .before .before .before .before .before .before .before .before .before .before .before .before .before in
+    let m = c .before .before .before .set-members in
+    let i = c .before .before .before .before .before .before .before .interconnect in
+    let l = c .before .before .before .before .before .before .before .before .before .before .before .leave-free in
+    let u = c .before .before .before .before .before .before .before .before .before .before .before .before .before .union in
+    let k = c .before .before .before .before .before .before .before .before .before .before .before .before .before .before .before in
     let p = k .before .before .before .before .before .before .before .before .before .before in
     let t = p .args .t .now in
     let r = found k .seat in
-    add-joined t (p .pre .1) (p .args .caller) (p .args .s) (p .args .set) (k .before .before .before .before .before .before .before .set-reason .ensures) (k .before .before .before .before .before .enum-told .given .1) (found k)
+    rw (c .done .ensures) (add-joined t (p .pre .1) (p .args .caller) (p .args .s) (p .args .set) (k .before .before .before .before .before .before .before .set-reason .ensures) (k .before .before .before .before .before .enum-told .given .1) (found k)
     (u .result) (u .ensures) (m .last .0)
-    (m .ensures _ (i .ensures _ (l .ensures (here t) (base t (p .pre .1)) (regular-rostered (regular t (p .pre .1))))) (r .before) (r .after) (r .group) (r .is) (r .stands))
+    (m .ensures _ (i .ensures _ (l .ensures (here t) (base t (p .pre .1)) (regular-rostered (regular t (p .pre .1))))) (r .before) (r .after) (r .group) (r .is) (r .stands)))
 
 pub add-nodes-spec : {M : Type 1} → statement M
 add-nodes-spec =
     tie.close
     (tie.spec
-    slice-read-set-reason
-    cast-set-reason
+    slice-read-size
+    cast-size
     set-reason-requires
     enum-told
+    refused-requires
     returns
     place-for-requires
     enum-known-denial
+    refused-requires-2
     enum-known-at
     add-union
     mul-union
@@ -125,6 +136,7 @@ add-nodes-spec =
     leave-free-requires
     interconnect-requires
     set-members-requires
+    done-requires
     same-length
     returns-2
     same-length-2

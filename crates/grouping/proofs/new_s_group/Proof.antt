@@ -51,6 +51,9 @@ enum-told c = search needs
 creation-reason-requires : tie.Need-creation-reason-requires
 creation-reason-requires c κs = search needs
 
+refused-requires : tie.Need-refused-requires
+refused-requires c κs = search needs
+
 enum-known-at : tie.Need-enum-known-at
 enum-known-at c = search needs
 
@@ -60,14 +63,17 @@ creation-reason-requires-2 c κs = search needs
 enum-told-2 : tie.Need-enum-told-2
 enum-told-2 c = search needs
 
+refused-requires-2 : tie.Need-refused-requires-2
+refused-requires-2 c κs = search needs
+
 same-length : tie.Need-same-length
 same-length c = search needs
 
 returns : tie.Need-returns
 returns c =
-    let p = c .before .before .before .before .before .before .before .before .before .before in
-    new-refused (p .args .t .now) (p .pre .1) (p .args .caller) (p .args .s) (p .args .set) false (c .before .creation-reason2 .ensures)
-    (ap held (room (c .before .before) .finds)) (not-done (c .before .creation-reason2 .result) (c .match2 .keys2))
+    let p = c .before .before .before .before .before .before .before .before .before .before .before in
+    rw (c .refused2 .ensures) (new-refused (p .args .t .now) (p .pre .1) (p .args .caller) (p .args .s) (p .args .set) false (c .before .before .creation-reason2 .ensures)
+    (ap held (room (c .before .before .before) .finds)) (not-done (c .before .before .creation-reason2 .result) (c .before .match2 .keys2)))
 
 leave-free-requires : tie.Need-leave-free-requires
 leave-free-requires c κs = let p = c .before .before .before .before .before .before .before .before .before .before .before .before in (p .pre .0, nodes-few (p .args .t .now) (p .pre .1))
@@ -85,27 +91,30 @@ insert-group-requires c κs =
     let d = creation-done (getD (p .args .t .now) 0 0) (getD (p .args .t .now) 2 0) (p .args .caller) (p .args .s) (p .args .set) false (sym (c .before .before .before .before .before .before .before .before .before .before .before .creation-reason2 .ensures) ∙ c .before .before .before .before .before .before .before .before .before .enum-told2 .given .1) in
     (search needs, (omega (arith, d .3), omega (arith, r .stands, ap length (r .is), length-append (r .before) (r .after))))
 
+done-requires : tie.Need-done-requires
+done-requires c κs = search needs
+
 same-length-2 : tie.Need-same-length-2
 same-length-2 c = search needs
 
 returns-2 : tie.Need-returns-2
 returns-2 c =
-    let p = c .before .before .before .before .before .before .before .before in
-    let f = c .before .before .before .place-of in
-    new-taken (p .args .t .now) (p .pre .1) (p .args .caller) (p .args .s) (p .args .set) (c .creation-reason .ensures)
-    (sought-here (p .args .t .now) (p .pre .1) (p .args .s) (f .result) (At (c .before .enum-told .given .0 .0)) (f .ensures) (c .before .enum-told .given .1))
+    let p = c .before .before .before .before .before .before .before .before .before in
+    let f = c .before .before .before .before .place-of in
+    rw (c .refused .ensures) (new-taken (p .args .t .now) (p .pre .1) (p .args .caller) (p .args .s) (p .args .set) (c .before .creation-reason .ensures)
+    (sought-here (p .args .t .now) (p .pre .1) (p .args .s) (f .result) (At (c .before .before .enum-told .given .0 .0)) (f .ensures) (c .before .before .enum-told .given .1)))
 
 same-length-3 : tie.Need-same-length-3
 same-length-3 c = search needs
 
 returns-3 : tie.Need-returns-3
 returns-3 c =
-    let g = c .before .before .insert-group in
-    let k = c .before .before .before .before .before .before .before .before .before .before .before .before .before .before .before in
+    let g = c .before .before .before .insert-group in
+    let k = c .before .before .before .before .before .before .before .before .before .before .before .before .before .before .before .before in
     let p = k .before .before .before .before .before .before .before .before in
     let r = room k in
-    new-made (p .args .t .now) (p .pre .1) (p .args .caller) (p .args .s) (p .args .set) false (c .before .before .before .before .before .before .before .before .before .before .before .before .before .before .creation-reason2 .ensures) (ap held (r .finds))
-    (c .before .before .before .before .before .before .before .before .before .before .before .before .enum-told2 .given .1) r (g .last .0) (g .ensures _ (wired (c .before .before .before .before .before .before)) (r .before) (r .after) (r .is) (r .stands))
+    rw (c .done .ensures) (new-made (p .args .t .now) (p .pre .1) (p .args .caller) (p .args .s) (p .args .set) false (c .before .before .before .before .before .before .before .before .before .before .before .before .before .before .before .creation-reason2 .ensures) (ap held (r .finds))
+    (c .before .before .before .before .before .before .before .before .before .before .before .before .before .enum-told2 .given .1) r (g .last .0) (g .ensures _ (wired (c .before .before .before .before .before .before .before)) (r .before) (r .after) (r .is) (r .stands)))
 
 pub new-s-group-spec : {M : Type 1} → statement M
 new-s-group-spec =
@@ -117,14 +126,17 @@ new-s-group-spec =
     place-of-requires
     enum-told
     creation-reason-requires
+    refused-requires
     enum-known-at
     creation-reason-requires-2
     enum-told-2
+    refused-requires-2
     same-length
     returns
     leave-free-requires
     interconnect-requires
     insert-group-requires
+    done-requires
     same-length-2
     returns-2
     same-length-3

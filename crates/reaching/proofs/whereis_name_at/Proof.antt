@@ -16,11 +16,11 @@ use Rattle.inputs.proofs.Reasons.{not-done}
 use Rattle.reaching.proofs.whereis_name_at.Statement.{statement}
 use Rattle.reaching.proofs.whereis_name_at.Tie as tie
 
-slice-read-asking-reason : tie.Need-slice-read-asking-reason
-slice-read-asking-reason c = search needs
+slice-read-size : tie.Need-slice-read-size
+slice-read-size c = search needs
 
-cast-asking-reason : tie.Need-cast-asking-reason
-cast-asking-reason c = let p = c .before .before in omega (arith, nodes-few (p .args .t .now) (p .pre .1))
+cast-size : tie.Need-cast-size
+cast-size c = let p = c .before .before in omega (arith, nodes-few (p .args .t .now) (p .pre .1))
 
 asking-reason-requires : tie.Need-asking-reason-requires
 asking-reason-requires c κs = search needs
@@ -28,13 +28,16 @@ asking-reason-requires c κs = search needs
 enum-told : tie.Need-enum-told
 enum-told c = search needs
 
+refused-requires : tie.Need-refused-requires
+refused-requires c κs = search needs
+
 returns : tie.Need-returns
 unfolding state-of
 returns c =
-    let p = c .before .before .before .before in
+    let p = c .before .before .before .before .before in
     let a = p .args in
-    says-kept (a .t .now) (p .pre .1)
-    (refused (step-whereis-at 0 (a .caller) (here (a .t .now)) (a .node) (a .s) (a .n)) (c .before .asking-reason .ensures) (not-done (c .before .asking-reason .result) (c .match .keys2)))
+    rw (c .refused .ensures) (says-kept (a .t .now) (p .pre .1)
+    (refused (step-whereis-at 0 (a .caller) (here (a .t .now)) (a .node) (a .s) (a .n)) (c .before .before .asking-reason .ensures) (not-done (c .before .before .asking-reason .result) (c .before .match .keys2))))
 
 look-requires : tie.Need-look-requires
 look-requires c κs = search needs
@@ -50,8 +53,14 @@ connect-requires c κs =
 enum-known-seen : tie.Need-enum-known-seen
 enum-known-seen c = search needs
 
+done-requires : tie.Need-done-requires
+done-requires c κs = search needs
+
 enum-known-seen-2 : tie.Need-enum-known-seen-2
 enum-known-seen-2 c = search needs
+
+said-requires : tie.Need-said-requires
+said-requires c κs = search needs
 
 same-length : tie.Need-same-length
 same-length c = search needs
@@ -59,13 +68,13 @@ same-length c = search needs
 returns-2 : tie.Need-returns-2
 unfolding state-of
 returns-2 c =
-    let p = c .before .before .before .before .before .before .before .before .before .before .before .before .before .before in
+    let p = c .before .before .before .before .before .before .before .before .before .before .before .before .before .before .before in
     let a = p .args in
     let t = a .t .now in
-    let k = c .before .before .before .before .before .connect in
-    whereis-told t (p .pre .1) (a .caller) (a .node) (a .s) (a .n) (c .before .before .before .before .before .before .before .before .before .before .before .asking-reason .ensures) (c .before .before .before .before .before .before .before .before .before .enum-told .given .1)
-    (Found (c .before .seen .given .0 .0)) (ap looked-up (sym (c .before .seen .given .1)) ∙ c .before .before .before .before .before .before .before .look .ensures) (k .last .0)
-    (k .ensures (here t) (base t (p .pre .1)) (regular t (p .pre .1)))
+    let k = c .before .before .before .before .before .before .connect in
+    rw (c .done .ensures) (whereis-told t (p .pre .1) (a .caller) (a .node) (a .s) (a .n) (c .before .before .before .before .before .before .before .before .before .before .before .before .asking-reason .ensures) (c .before .before .before .before .before .before .before .before .before .before .enum-told .given .1)
+    (Found (c .before .before .seen .given .0 .0)) (ap looked-up (sym (c .before .before .seen .given .1)) ∙ c .before .before .before .before .before .before .before .before .look .ensures) (k .last .0)
+    (k .ensures (here t) (base t (p .pre .1)) (regular t (p .pre .1))))
 
 same-length-2 : tie.Need-same-length-2
 same-length-2 c = search needs
@@ -73,27 +82,30 @@ same-length-2 c = search needs
 returns-3 : tie.Need-returns-3
 unfolding state-of
 returns-3 c =
-    let p = c .before .before .before .before .before .before .before .before .before .before .before .before .before .before in
+    let p = c .before .before .before .before .before .before .before .before .before .before .before .before .before .before .before in
     let a = p .args in
     let t = a .t .now in
-    let k = c .before .before .before .before .before .connect in
-    whereis-told t (p .pre .1) (a .caller) (a .node) (a .s) (a .n) (c .before .before .before .before .before .before .before .before .before .before .before .asking-reason .ensures) (c .before .before .before .before .before .before .before .before .before .enum-told .given .1)
-    (Missing (c .before .seen2 .given .0 .0)) (ap looked-up (sym (c .before .seen2 .given .1)) ∙ c .before .before .before .before .before .before .before .look .ensures) (k .last .0)
-    (k .ensures (here t) (base t (p .pre .1)) (regular t (p .pre .1)))
+    let k = c .before .before .before .before .before .before .connect in
+    rw (c .said .ensures) (whereis-told t (p .pre .1) (a .caller) (a .node) (a .s) (a .n) (c .before .before .before .before .before .before .before .before .before .before .before .before .asking-reason .ensures) (c .before .before .before .before .before .before .before .before .before .before .enum-told .given .1)
+    (Missing (c .before .before .seen2 .given .0 .0)) (ap looked-up (sym (c .before .before .seen2 .given .1)) ∙ c .before .before .before .before .before .before .before .before .look .ensures) (k .last .0)
+    (k .ensures (here t) (base t (p .pre .1)) (regular t (p .pre .1))))
 
 pub whereis-name-at-spec : {M : Type 1} → statement M
 whereis-name-at-spec =
     tie.close
     (tie.spec
-    slice-read-asking-reason
-    cast-asking-reason
+    slice-read-size
+    cast-size
     asking-reason-requires
     enum-told
+    refused-requires
     returns
     look-requires
     connect-requires
     enum-known-seen
+    done-requires
     enum-known-seen-2
+    said-requires
     same-length
     returns-2
     same-length-2

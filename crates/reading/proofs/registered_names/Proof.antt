@@ -33,12 +33,15 @@ group-reason-requires c κs = search needs
 enum-told : tie.Need-enum-told
 enum-told c = search needs
 
+refused-requires : tie.Need-refused-requires
+refused-requires c κs = search needs
+
 returns : tie.Need-returns
 unfolding state-of
 returns c =
-    let p = c .before .before .before .before .before in
+    let p = c .before .before .before .before .before .before in
     let t = p .args .t .now in
-    lists-refused t (p .pre .1) (p .args .out .now) (step-names (length (p .args .out .now)) (p .args .caller) (here t) (p .args .s)) (c .before .group-reason .ensures) (not-done (c .before .group-reason .result) (c .match .keys2))
+    rw (c .refused .ensures) (lists-refused t (p .pre .1) (p .args .out .now) (step-names (length (p .args .out .now)) (p .args .caller) (here t) (p .args .s)) (c .before .before .group-reason .ensures) (not-done (c .before .before .group-reason .result) (c .before .match .keys2)))
 
 place-for-requires : tie.Need-place-for-requires
 place-for-requires c κs = search needs
@@ -51,8 +54,11 @@ list-names-requires c κs =
     let p = c .before .before .before .before .before .before .before .before .before .before .before in
     (p .pre .0, open-below (p .args .t .now) (p .pre .1) (open-here (c .before)))
 
-enum-known-d : tie.Need-enum-known-d
-enum-known-d c = search needs
+enum-known-denial : tie.Need-enum-known-denial
+enum-known-denial c = search needs
+
+said-requires : tie.Need-said-requires
+said-requires c κs = search needs
 
 same-length : tie.Need-same-length
 same-length c = search needs
@@ -71,12 +77,12 @@ returns-2 c =
 returns-3 : tie.Need-returns-3
 unfolding state-of
 returns-3 c =
-    let f = c .before .before .before in
+    let f = c .before .before .before .before in
     let j = f .before in
     let p = j .before .before .before .before .before .before in
     let t = p .args .t .now in
-    lists-denied t (p .pre .1) (p .args .out .now) (step-names (length (p .args .out .now)) (p .args .caller) (here t) (p .args .s)) (j .before .before .group-reason .ensures) (j .enum-told .given .1)
-    (f .place-for .result) (f .place-for .ensures) (c .before .d .given .1)
+    rw (c .said .ensures) (lists-denied t (p .pre .1) (p .args .out .now) (step-names (length (p .args .out .now)) (p .args .caller) (here t) (p .args .s)) (j .before .before .group-reason .ensures) (j .enum-told .given .1)
+    (f .place-for .result) (f .place-for .ensures) (c .before .before .denial .given .1))
 
 pub registered-names-spec : {M : Type 1} → statement M
 registered-names-spec =
@@ -86,11 +92,13 @@ registered-names-spec =
     cast-size
     group-reason-requires
     enum-told
+    refused-requires
     returns
     place-for-requires
     enum-known-at
     list-names-requires
-    enum-known-d
+    enum-known-denial
+    said-requires
     same-length
     returns-2
     returns-3)

@@ -19,19 +19,35 @@ use names::replace_name;
 use place::Access;
 use place::place_for;
 ghost use mathlib.Core.Path.{_≡_};
-ghost use mathlib.Core.Bool.{true};
+ghost use mathlib.Core.Bool.{true, false};
 ghost use Prim.Native.Nat.{ℕ, _<_};
 ghost use lib.ListN.{length};
+ghost use Rattle.entries.specs.Entries.{lookup, holds-pid};
 ghost use Rattle.semantics.specs.Sizes.{group-limit, names-per-group, table-words};
 ghost use Rattle.semantics.specs.State.{State};
 ghost use Rattle.commands.specs.declared.Command.the-variants.{RegisterName, ReRegisterName, UnregisterName};
 ghost use Rattle.semantics.specs.Test.{sound};
 ghost use Rattle.semantics.specs.Call.{call};
+ghost use Rattle.semantics.specs.Ranges.{held};
 ghost use Rattle.semantics.specs.Regular.{Regular};
 ghost use Rattle.semantics.specs.WordsOfState.{Laid};
 ghost use Rattle.returns.specs.Judged.{register-in, re-register-in, unregister-in};
 ghost use Rattle.place.specs.Seats.{Seat};
+ghost use Rattle.names.specs.NamesAt.{names-at};
 ghost use Rattle.returns.specs.Settled.{Settles};
+
+// The name and the pid, neither of which is held, in the s_group at `at`, where it has room.
+fn register_new(t: &mut [u64], at: usize, n: u32, p: u32) -> Answer
+    requires { ⌜ length (now t) ≡ table-words names-per-group ⌝ }
+    requires { ⌜ at < group-limit ⌝ }
+    ensures { λ r. ⌜ ((st : State) → Laid names-per-group st (now (t .entry)) → Regular names-per-group st → (s : ℕ) (w : Seat s at (st .groups)) → held (lookup n (names-at at st)) ≡ false → holds-pid p (names-at at st) ≡ false → Settles s (register-in n p (w .group)) st r (now (t .exit))) ⌝ }
+{
+    if NAMES_PER_GROUP <= names_count(t, at) {
+        return said(Value::False, Reason::NamespaceFull);
+    }
+    add_name(t, at, n, p);
+    done(Value::True)
+}
 
 // The name and the pid in the s_group at `at`, neither of which may be held.
 fn register_in(t: &mut [u64], at: usize, n: u32, p: u32) -> Answer
@@ -45,11 +61,7 @@ fn register_in(t: &mut [u64], at: usize, n: u32, p: u32) -> Answer
     if pid_held(t, at, p) {
         return said(Value::False, Reason::PidTaken);
     }
-    if NAMES_PER_GROUP <= names_count(t, at) {
-        return said(Value::False, Reason::NamespaceFull);
-    }
-    add_name(t, at, n, p);
-    done(Value::True)
+    register_new(t, at, n, p)
 }
 
 // The name with this pid, which may not be held, in the s_group at `at`.
@@ -64,11 +76,7 @@ fn re_register_in(t: &mut [u64], at: usize, n: u32, p: u32) -> Answer
     if replace_name(t, at, n, p) {
         return done(Value::True);
     }
-    if NAMES_PER_GROUP <= names_count(t, at) {
-        return said(Value::False, Reason::NamespaceFull);
-    }
-    add_name(t, at, n, p);
-    done(Value::True)
+    register_new(t, at, n, p)
 }
 
 // The s_group at `at` without the name.

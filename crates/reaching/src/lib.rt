@@ -91,12 +91,12 @@ pub fn send_at(t: &mut [u64], caller: u32, node: u32, s: u32, n: u32) -> Answer
     let Reason::Done = reason else {
         return refused(reason);
     };
-    let seen = look(t, node, s, n);
+    let found = look(t, node, s, n);
     connect(t, caller, node);
-    match seen {
-        Lookup::Found(p) => {
-            connect(t, caller, p / PIDS_PER_HOST);
-            done(Value::Pid(p))
+    match found {
+        Lookup::Found(pid) => {
+            connect(t, caller, pid / PIDS_PER_HOST);
+            done(Value::Pid(pid))
         }
         Lookup::Missing(why) => said(Value::Undefined, why),
     }

@@ -1,18 +1,16 @@
--- `naming::register_in` meets its contract: each return is a case of the rule, and the names are put anew in the last.
+-- `naming::register_in` meets its contract: each return is a case of the rule, and the last is that of a new name.
 -- Assumes nothing.
 use borrow.Author.Needs.{needs}
 use mathlib.Core.Path.{_≡_, sym, _∙_}
 use mathlib.Core.Bool.{false}
-use native.Mathlib.Omega.{arith}
 use Rattle.entries.specs.Entries.{lookup, rank}
 use Rattle.semantics.specs.Sizes.{names-per-group}
 use Rattle.semantics.specs.State.{State}
 use Rattle.semantics.specs.Ranges.{held}
-use Rattle.semantics.specs.NamesKept.{not-held}
 use Rattle.semantics.specs.WordsOfState.{Laid}
 use Rattle.names.specs.NamesAt.{Standing, names-at}
 use Rattle.names.specs.NamesHere.{standing}
-use Rattle.returns.specs.Settled.{name-taken, pid-taken, no-room, registered}
+use Rattle.returns.specs.Settled.{name-taken, pid-taken}
 use Rattle.names.proofs.Changes.{found-held, found-absent}
 use Rattle.naming.proofs.register_in.Statement.{statement}
 use Rattle.naming.proofs.register_in.Tie as tie
@@ -61,44 +59,18 @@ returns-2 c =
     λ st l r s w.
     rw (c .said2 .ensures) (pid-taken l w r (a .n) (a .p) (absent k st l (standing r w)) (sym (h .pid-held .ensures st l (standing r w)) ∙ c .before .if1 .taken))
 
-names-count-requires : tie.Need-names-count-requires
-names-count-requires c κs = search needs
-
-said-requires-3 : tie.Need-said-requires-3
-said-requires-3 c κs = search needs
+register-new-requires : tie.Need-register-new-requires
+register-new-requires c κs = search needs
 
 same-length-3 : tie.Need-same-length-3
 same-length-3 c = search needs
 
 returns-3 : tie.Need-returns-3
 returns-3 c =
-    let q = c .before .before in
-    let i = q .before .before in
+    let d = c .before .before in
+    let i = d .before .before in
     let k = i .before .before .before in
-    let a = k .before .before .before .before .args in
-    λ st l r s w.
-    rw (c .said3 .ensures) (no-room l w r (a .n) (a .p) (absent k st l (standing r w)) (sym (i .before .pid-held .ensures st l (standing r w)) ∙ i .if1 .left) (omega (arith, q .names-count .ensures, c .before .if2 .taken)))
-
-add-name-requires : tie.Need-add-name-requires
-add-name-requires c κs = search needs
-
-done-requires : tie.Need-done-requires
-done-requires c κs = search needs
-
-same-length-4 : tie.Need-same-length-4
-same-length-4 c = search needs
-
-returns-4 : tie.Need-returns-4
-returns-4 c =
-    let d = c .before .before .before in
-    let q = d .before .before in
-    let i = q .before .before .before in
-    let k = i .before .before .before in
-    let a = k .before .before .before .before .args in
-    λ st l r s w.
-    rw (c .done .ensures) (registered l w r (a .n) (a .p) (absent k st l (standing r w)) (sym (i .before .pid-held .ensures st l (standing r w)) ∙ i .if1 .left)
-    (omega (arith, q .before .names-count .ensures, q .if2 .left)) (d .add-name .last .0)
-    (d .add-name .ensures st l (standing r w) (not-held _ (absent k st l (standing r w)))))
+    λ st l r s w. d .register-new .ensures st l r s w (absent k st l (standing r w)) (sym (i .before .pid-held .ensures st l (standing r w)) ∙ i .if1 .left)
 
 pub register-in-spec : {M : Type 1} → statement M
 register-in-spec =
@@ -113,11 +85,6 @@ register-in-spec =
     said-requires-2
     same-length-2
     returns-2
-    names-count-requires
-    said-requires-3
+    register-new-requires
     same-length-3
-    returns-3
-    add-name-requires
-    done-requires
-    same-length-4
-    returns-4)
+    returns-3)

@@ -14,6 +14,10 @@ use Rattle.inputs.proofs.Reasons.{not-done}
 use Rattle.reaching.proofs.send.Statement.{statement}
 use Rattle.reaching.proofs.send.Tie as tie
 
+-- the start of the step
+abbrev start : tie.After-enum-told → tie.Start
+start c = c .before .before .before .before .before
+
 slice-read-size : tie.Need-slice-read-size
 slice-read-size c = search needs
 
@@ -39,9 +43,10 @@ returns c =
 connect-requires : tie.Need-connect-requires
 unfolding state-of
 connect-requires c κs =
-    let p = c .before .before .before .before .before .before in
+    let j = c .before in
+    let p = start j in
     let t = p .args .t .now in
-    let d = host-done (getD t 0 0) (p .args .caller) (p .args .p) (sym (c .before .before .before .host-reason .ensures) ∙ c .before .enum-told .given .1) in
+    let d = host-done (getD t 0 0) (p .args .caller) (p .args .p) (sym (j .before .before .host-reason .ensures) ∙ j .enum-told .given .1) in
     (p .pre .0, (in-limit t (p .pre .1) (d .0), in-limit t (p .pre .1) (d .1)))
 
 done-requires : tie.Need-done-requires
@@ -53,11 +58,12 @@ same-length c = search needs
 returns-2 : tie.Need-returns-2
 unfolding state-of
 returns-2 c =
-    let p = c .before .before .before .before .before .before .before .before .before .before in
+    let k = c .before .before .before in
+    let j = k .before .before in
+    let p = start j in
     let t = p .args .t .now in
-    let k = c .before .before .before .connect in
-    rw (c .done .ensures) (says t (p .pre .1) (passed (step-send 0 (p .args .caller) (here t) (p .args .p)) (c .before .before .before .before .before .before .before .host-reason .ensures) (c .before .before .before .before .before .enum-told .given .1)) (k .last .0)
-    (k .ensures (here t) (base t (p .pre .1)) (regular t (p .pre .1))))
+    rw (c .done .ensures) (says t (p .pre .1) (passed (step-send 0 (p .args .caller) (here t) (p .args .p)) (j .before .before .host-reason .ensures) (j .enum-told .given .1)) (k .connect .last .0)
+    (k .connect .ensures (here t) (base t (p .pre .1)) (regular t (p .pre .1))))
 
 pub send-spec : {M : Type 1} → statement M
 send-spec =

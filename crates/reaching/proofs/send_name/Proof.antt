@@ -17,8 +17,12 @@ use Rattle.inputs.proofs.Reasons.{not-done}
 use Rattle.reaching.proofs.send_name.Statement.{statement}
 use Rattle.reaching.proofs.send_name.Tie as tie
 
+-- the start of the step
+abbrev start : tie.After-enum-told → tie.Start
+start c = c .before .before .before .before .before
+
 -- the pid that is found
-found : (c : tie.After-known-told) → let a = c .before .before .before .before .before .before .before .before .before .before .args in looked-up (Found (c .before .p .given .0 .0)) ≡ ask (a .caller) (a .s) (a .n) (here (a .t .now))
+found : (c : tie.After-known-told) → let a = start (c .before .before .before .before .before) .args in looked-up (Found (c .before .p .given .0 .0)) ≡ ask (a .caller) (a .s) (a .n) (here (a .t .now))
 found c = ap looked-up (sym (c .before .p .given .1)) ∙ c .before .before .before .look .ensures
 
 slice-read-size : tie.Need-slice-read-size
@@ -53,10 +57,11 @@ enum-known-p c = search needs
 connect-requires : tie.Need-connect-requires
 unfolding state-of
 connect-requires c κs =
-    let p = c .before .before .before .before .before .before .before .before .before .before .before in
+    let j = c .before .before .before .before .before .before in
+    let p = start j in
     let a = p .args in
     let N = getD (a .t .now) 0 0 in
-    let d = group-done N (a .caller) (a .s) (name-done N (a .caller) (a .s) (a .n) (sym (c .before .before .before .before .before .before .before .before .name-reason .ensures) ∙ c .before .before .before .before .before .before .enum-told .given .1) .0) in
+    let d = group-done N (a .caller) (a .s) (name-done N (a .caller) (a .s) (a .n) (sym (j .before .before .name-reason .ensures) ∙ j .enum-told .given .1) .0) in
     (p .pre .0, (in-limit (a .t .now) (p .pre .1) (d .0), in-limit (a .t .now) (p .pre .1) (host-here (a .t .now) (p .pre .1) (a .caller) (a .s) (a .n) _ (found (c .before)))))
 
 done-requires : tie.Need-done-requires
@@ -74,13 +79,15 @@ same-length c = search needs
 returns-2 : tie.Need-returns-2
 unfolding state-of
 returns-2 c =
-    let p = c .before .before .before .before .before .before .before .before .before .before .before .before .before .before .before in
+    let k = c .before .before .before in
+    let e = k .before .before in
+    let j = e .before .before .before .before .before in
+    let p = start j in
     let a = p .args in
     let t = a .t .now in
-    let k = c .before .before .before .connect in
-    rw (c .done .ensures) (send-name-told t (p .pre .1) (a .caller) (a .s) (a .n) (c .before .before .before .before .before .before .before .before .before .before .before .before .name-reason .ensures) (c .before .before .before .before .before .before .before .before .before .before .enum-told .given .1)
-    (Found (c .before .before .before .before .before .before .p .given .0 .0)) (found (c .before .before .before .before .before)) (k .last .0)
-    (k .ensures (here t) (base t (p .pre .1)) (regular t (p .pre .1))))
+    rw (c .done .ensures) (send-name-told t (p .pre .1) (a .caller) (a .s) (a .n) (j .before .before .name-reason .ensures) (j .enum-told .given .1)
+    (Found (e .before .p .given .0 .0)) (found e) (k .connect .last .0)
+    (k .connect .ensures (here t) (base t (p .pre .1)) (regular t (p .pre .1))))
 
 same-length-2 : tie.Need-same-length-2
 same-length-2 c = search needs
@@ -88,11 +95,14 @@ same-length-2 c = search needs
 returns-3 : tie.Need-returns-3
 unfolding state-of
 returns-3 c =
-    let p = c .before .before .before .before .before .before .before .before .before .before .before in
+    let d = c .before .before in
+    let f = d .before .before in
+    let j = f .before .before in
+    let p = start j in
     let a = p .args in
     let t = a .t .now in
-    rw (c .said .ensures) (send-name-told t (p .pre .1) (a .caller) (a .s) (a .n) (c .before .before .before .before .before .before .before .before .name-reason .ensures) (c .before .before .before .before .before .before .enum-told .given .1)
-    (Missing (c .before .before .why .given .0 .0)) (ap looked-up (sym (c .before .before .why .given .1)) ∙ c .before .before .before .before .look .ensures) t (base t (p .pre .1)))
+    rw (c .said .ensures) (send-name-told t (p .pre .1) (a .caller) (a .s) (a .n) (j .before .before .name-reason .ensures) (j .enum-told .given .1)
+    (Missing (d .why .given .0 .0)) (ap looked-up (sym (d .why .given .1)) ∙ f .look .ensures) t (base t (p .pre .1)))
 
 pub send-name-spec : {M : Type 1} → statement M
 send-name-spec =

@@ -16,6 +16,10 @@ use Rattle.inputs.proofs.Reasons.{not-done}
 use Rattle.reaching.proofs.whereis_name_at.Statement.{statement}
 use Rattle.reaching.proofs.whereis_name_at.Tie as tie
 
+-- the start of the step
+abbrev start : tie.After-enum-told → tie.Start
+start c = c .before .before .before .before .before
+
 slice-read-size : tie.Need-slice-read-size
 slice-read-size c = search needs
 
@@ -45,9 +49,10 @@ look-requires c κs = search needs
 connect-requires : tie.Need-connect-requires
 unfolding state-of
 connect-requires c κs =
-    let p = c .before .before .before .before .before .before .before .before in
+    let j = c .before .before .before in
+    let p = start j in
     let a = p .args in
-    let d = asking-done (getD (a .t .now) 0 0) (a .caller) (a .node) (a .s) (a .n) (sym (c .before .before .before .before .before .asking-reason .ensures) ∙ c .before .before .before .enum-told .given .1) in
+    let d = asking-done (getD (a .t .now) 0 0) (a .caller) (a .node) (a .s) (a .n) (sym (j .before .before .asking-reason .ensures) ∙ j .enum-told .given .1) in
     (p .pre .0, (in-limit (a .t .now) (p .pre .1) (d .0), in-limit (a .t .now) (p .pre .1) (d .3)))
 
 enum-known-seen : tie.Need-enum-known-seen
@@ -68,13 +73,16 @@ same-length c = search needs
 returns-2 : tie.Need-returns-2
 unfolding state-of
 returns-2 c =
-    let p = c .before .before .before .before .before .before .before .before .before .before .before .before .before .before .before in
+    let e = c .before .before in
+    let k = e .before .before .before .before in
+    let f = k .before .before in
+    let j = f .before .before in
+    let p = start j in
     let a = p .args in
     let t = a .t .now in
-    let k = c .before .before .before .before .before .before .connect in
-    rw (c .done .ensures) (whereis-told t (p .pre .1) (a .caller) (a .node) (a .s) (a .n) (c .before .before .before .before .before .before .before .before .before .before .before .before .asking-reason .ensures) (c .before .before .before .before .before .before .before .before .before .before .enum-told .given .1)
-    (Found (c .before .before .seen .given .0 .0)) (ap looked-up (sym (c .before .before .seen .given .1)) ∙ c .before .before .before .before .before .before .before .before .look .ensures) (k .last .0)
-    (k .ensures (here t) (base t (p .pre .1)) (regular t (p .pre .1))))
+    rw (c .done .ensures) (whereis-told t (p .pre .1) (a .caller) (a .node) (a .s) (a .n) (j .before .before .asking-reason .ensures) (j .enum-told .given .1)
+    (Found (e .seen .given .0 .0)) (ap looked-up (sym (e .seen .given .1)) ∙ f .look .ensures) (k .connect .last .0)
+    (k .connect .ensures (here t) (base t (p .pre .1)) (regular t (p .pre .1))))
 
 same-length-2 : tie.Need-same-length-2
 same-length-2 c = search needs
@@ -82,13 +90,16 @@ same-length-2 c = search needs
 returns-3 : tie.Need-returns-3
 unfolding state-of
 returns-3 c =
-    let p = c .before .before .before .before .before .before .before .before .before .before .before .before .before .before .before in
+    let e = c .before .before in
+    let k = e .before .before .before .before in
+    let f = k .before .before in
+    let j = f .before .before in
+    let p = start j in
     let a = p .args in
     let t = a .t .now in
-    let k = c .before .before .before .before .before .before .connect in
-    rw (c .said .ensures) (whereis-told t (p .pre .1) (a .caller) (a .node) (a .s) (a .n) (c .before .before .before .before .before .before .before .before .before .before .before .before .asking-reason .ensures) (c .before .before .before .before .before .before .before .before .before .before .enum-told .given .1)
-    (Missing (c .before .before .seen2 .given .0 .0)) (ap looked-up (sym (c .before .before .seen2 .given .1)) ∙ c .before .before .before .before .before .before .before .before .look .ensures) (k .last .0)
-    (k .ensures (here t) (base t (p .pre .1)) (regular t (p .pre .1))))
+    rw (c .said .ensures) (whereis-told t (p .pre .1) (a .caller) (a .node) (a .s) (a .n) (j .before .before .asking-reason .ensures) (j .enum-told .given .1)
+    (Missing (e .seen2 .given .0 .0)) (ap looked-up (sym (e .seen2 .given .1)) ∙ f .look .ensures) (k .connect .last .0)
+    (k .connect .ensures (here t) (base t (p .pre .1)) (regular t (p .pre .1))))
 
 pub whereis-name-at-spec : {M : Type 1} → statement M
 whereis-name-at-spec =

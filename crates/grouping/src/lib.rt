@@ -2,6 +2,8 @@
 use answers::Answer;
 use answers::Reason;
 use answers::Value;
+use answers::done;
+use answers::refused;
 use connecting::become_free;
 use connecting::interconnect;
 use connecting::leave_free;
@@ -38,26 +40,17 @@ pub fn new_s_group(t: &mut [u64], caller: u32, s: u32, set: u64) -> Answer
     match place_of(t, s) {
         Place::At(_) => {
             let reason = creation_reason(size, count, caller, s, set, true);
-            Answer {
-                value: Value::Error,
-                reason,
-            }
+            refused(reason)
         }
         Place::Gap(at) => {
             let reason = creation_reason(size, count, caller, s, set, false);
             let Reason::Done = reason else {
-                return Answer {
-                    value: Value::Error,
-                    reason,
-                };
+                return refused(reason);
             };
             leave_free(t, set);
             interconnect(t, set);
             insert_group(t, at, s, set);
-            Answer {
-                value: Value::Grouped(s, set),
-                reason: Reason::Done,
-            }
+            done(Value::Grouped(s, set))
         }
     }
 }
@@ -69,27 +62,19 @@ pub fn add_nodes(t: &mut [u64], caller: u32, s: u32, set: u64) -> Answer
     ensures { λ r. ⌜ r ≡ call 0 caller (AddNodes s set) (now (t .entry)) .answer ⌝ }
     ensures { λ _. ⌜ now (t .exit) ≡ call 0 caller (AddNodes s set) (now (t .entry)) .table ⌝ }
 {
-    let reason = set_reason(t[SIZE_AT] as u32, caller, s, set);
+    let size = t[SIZE_AT] as u32;
+    let reason = set_reason(size, caller, s, set);
     let Reason::Done = reason else {
-        return Answer {
-            value: Value::Error,
-            reason,
-        };
+        return refused(reason);
     };
     match place_for(t, caller, s) {
-        Access::Denied(denial) => Answer {
-            value: Value::Error,
-            reason: denial,
-        },
+        Access::Denied(denial) => refused(denial),
         Access::Member(at) => {
             let members = nodes::union(t[MEMBERS_AT + at], set);
             leave_free(t, set);
             interconnect(t, members);
             set_members(t, at, members);
-            Answer {
-                value: Value::Grouped(s, set),
-                reason: Reason::Done,
-            }
+            done(Value::Grouped(s, set))
         }
     }
 }
@@ -101,35 +86,24 @@ pub fn remove_nodes(t: &mut [u64], caller: u32, s: u32, set: u64) -> Answer
     ensures { λ r. ⌜ r ≡ call 0 caller (RemoveNodes s set) (now (t .entry)) .answer ⌝ }
     ensures { λ _. ⌜ now (t .exit) ≡ call 0 caller (RemoveNodes s set) (now (t .entry)) .table ⌝ }
 {
-    let reason = set_reason(t[SIZE_AT] as u32, caller, s, set);
+    let size = t[SIZE_AT] as u32;
+    let reason = set_reason(size, caller, s, set);
     let Reason::Done = reason else {
-        return Answer {
-            value: Value::Error,
-            reason,
-        };
+        return refused(reason);
     };
     match place_for(t, caller, s) {
-        Access::Denied(denial) => Answer {
-            value: Value::Error,
-            reason: denial,
-        },
+        Access::Denied(denial) => refused(denial),
         Access::Member(at) => {
             let members = t[MEMBERS_AT + at];
             let left = nodes::diff(members, set);
             if left == 0 {
                 delete_group(t, at);
                 become_free(t, members);
-                return Answer {
-                    value: Value::True,
-                    reason: Reason::Done,
-                };
+                return done(Value::True);
             }
             set_members(t, at, left);
             become_free(t, nodes::inter(members, set));
-            Answer {
-                value: Value::True,
-                reason: Reason::Done,
-            }
+            done(Value::True)
         }
     }
 }
@@ -141,26 +115,18 @@ pub fn delete_s_group(t: &mut [u64], caller: u32, s: u32) -> Answer
     ensures { λ r. ⌜ r ≡ call 0 caller (DeleteSGroup s) (now (t .entry)) .answer ⌝ }
     ensures { λ _. ⌜ now (t .exit) ≡ call 0 caller (DeleteSGroup s) (now (t .entry)) .table ⌝ }
 {
-    let reason = group_reason(t[SIZE_AT] as u32, caller, s);
+    let size = t[SIZE_AT] as u32;
+    let reason = group_reason(size, caller, s);
     let Reason::Done = reason else {
-        return Answer {
-            value: Value::Error,
-            reason,
-        };
+        return refused(reason);
     };
     match place_for(t, caller, s) {
-        Access::Denied(denial) => Answer {
-            value: Value::Error,
-            reason: denial,
-        },
+        Access::Denied(denial) => refused(denial),
         Access::Member(at) => {
             let members = t[MEMBERS_AT + at];
             delete_group(t, at);
             become_free(t, members);
-            Answer {
-                value: Value::True,
-                reason: Reason::Done,
-            }
+            done(Value::True)
         }
     }
 }

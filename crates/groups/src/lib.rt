@@ -1,4 +1,6 @@
 // S_groups put into a table, taken out, and given other members.
+use bodies::drop_body;
+use bodies::put_body;
 use layout::BODIES_AT;
 use layout::CONTENTS_AT;
 use layout::COUNT_AT;
@@ -13,8 +15,6 @@ ghost use Rattle.semantics.specs.Soundness.{count-of};
 ghost use Rattle.semantics.specs.State.{Group, State, with-groups};
 ghost use Rattle.semantics.specs.WordsOfState.{Laid};
 ghost use Rattle.groups.specs.Grouped.{fresh, manned};
-use bodies::drop_body;
-use bodies::put_body;
 
 // A new s_group of no names goes in at the place: the s_groups from there on move up.
 pub fn insert_group(t: &mut [u64], at: usize, s: u32, set: u64)

@@ -1,4 +1,5 @@
 // The names of the s_group at a place of the table: its own words are lent to the namespace functions, and its contents word counts them.
+use answers::Reason;
 use entries::Change;
 use entries::Found;
 use entries::Held;
@@ -6,6 +7,8 @@ use layout::BODIES_AT;
 use layout::CONTENTS_AT;
 use layout::GROUP_NAMES;
 use layout::NAMES_PER_GROUP;
+use place::Access;
+use place::place_for;
 ghost use mathlib.Core.Path.{_≡_};
 ghost use mathlib.Core.Bool.{true};
 ghost use mathlib.Core.Option.{none};
@@ -16,17 +19,13 @@ ghost use Rattle.entries.specs.Raw.{answer-at};
 ghost use Rattle.semantics.specs.Sizes.{group-limit, names-per-group, table-words};
 ghost use Rattle.semantics.specs.State.{State};
 ghost use Rattle.semantics.specs.Ranges.{held};
-ghost use Rattle.semantics.specs.WordsOfState.{Laid};
-ghost use Rattle.names.specs.NamesAt.{Standing, counted, names-at, with-names};
-use answers::Reason;
-use place::Access;
-use place::place_for;
-ghost use Rattle.entries.specs.Entries.{lookup};
-ghost use Rattle.semantics.specs.Sizes.{names-per-group, table-words};
 ghost use Rattle.semantics.specs.Steps.{ask};
 ghost use Rattle.semantics.specs.Table.{state-of};
 ghost use Rattle.semantics.specs.Test.{sound};
+ghost use Rattle.semantics.specs.WordsOfState.{Laid};
+ghost use Rattle.names.specs.NamesAt.{Standing, counted, names-at, with-names};
 ghost use Rattle.names.specs.Looked.{looked-up};
+
 // How many names the s_group has.
 pub fn names_count(t: &[u64], at: usize) -> usize
     requires { ⌜ length (now t) ≡ table-words names-per-group ⌝ }

@@ -2,6 +2,9 @@
 use answers::Answer;
 use answers::Reason;
 use answers::Value;
+use answers::done;
+use answers::refused;
+use answers::said;
 use entries::Found;
 use inputs::name_reason;
 use inputs::pid_reason;
@@ -16,19 +19,35 @@ use names::replace_name;
 use place::Access;
 use place::place_for;
 ghost use mathlib.Core.Path.{_≡_};
-ghost use mathlib.Core.Bool.{true};
+ghost use mathlib.Core.Bool.{true, false};
 ghost use Prim.Native.Nat.{ℕ, _<_};
 ghost use lib.ListN.{length};
+ghost use Rattle.entries.specs.Entries.{lookup, holds-pid};
 ghost use Rattle.semantics.specs.Sizes.{group-limit, names-per-group, table-words};
 ghost use Rattle.semantics.specs.State.{State};
 ghost use Rattle.commands.specs.declared.Command.the-variants.{RegisterName, ReRegisterName, UnregisterName};
 ghost use Rattle.semantics.specs.Test.{sound};
 ghost use Rattle.semantics.specs.Call.{call};
+ghost use Rattle.semantics.specs.Ranges.{held};
 ghost use Rattle.semantics.specs.Regular.{Regular};
 ghost use Rattle.semantics.specs.WordsOfState.{Laid};
 ghost use Rattle.returns.specs.Judged.{register-in, re-register-in, unregister-in};
 ghost use Rattle.place.specs.Seats.{Seat};
+ghost use Rattle.names.specs.NamesAt.{names-at};
 ghost use Rattle.returns.specs.Settled.{Settles};
+
+// The name and the pid, neither of which is held, in the s_group at `at`, where it has room.
+fn register_new(t: &mut [u64], at: usize, n: u32, p: u32) -> Answer
+    requires { ⌜ length (now t) ≡ table-words names-per-group ⌝ }
+    requires { ⌜ at < group-limit ⌝ }
+    ensures { λ r. ⌜ ((st : State) → Laid names-per-group st (now (t .entry)) → Regular names-per-group st → (s : ℕ) (w : Seat s at (st .groups)) → held (lookup n (names-at at st)) ≡ false → holds-pid p (names-at at st) ≡ false → Settles s (register-in n p (w .group)) st r (now (t .exit))) ⌝ }
+{
+    if NAMES_PER_GROUP <= names_count(t, at) {
+        return said(Value::False, Reason::NamespaceFull);
+    }
+    add_name(t, at, n, p);
+    done(Value::True)
+}
 
 // The name and the pid in the s_group at `at`, neither of which may be held.
 fn register_in(t: &mut [u64], at: usize, n: u32, p: u32) -> Answer
@@ -37,28 +56,12 @@ fn register_in(t: &mut [u64], at: usize, n: u32, p: u32) -> Answer
     ensures { λ r. ⌜ ((st : State) → Laid names-per-group st (now (t .entry)) → Regular names-per-group st → (s : ℕ) (w : Seat s at (st .groups)) → Settles s (register-in n p (w .group)) st r (now (t .exit))) ⌝ }
 {
     if let Found::At(_, _) = find_name(t, at, n) {
-        return Answer {
-            value: Value::False,
-            reason: Reason::NameTaken,
-        };
+        return said(Value::False, Reason::NameTaken);
     }
     if pid_held(t, at, p) {
-        return Answer {
-            value: Value::False,
-            reason: Reason::PidTaken,
-        };
+        return said(Value::False, Reason::PidTaken);
     }
-    if NAMES_PER_GROUP <= names_count(t, at) {
-        return Answer {
-            value: Value::False,
-            reason: Reason::NamespaceFull,
-        };
-    }
-    add_name(t, at, n, p);
-    Answer {
-        value: Value::True,
-        reason: Reason::Done,
-    }
+    register_new(t, at, n, p)
 }
 
 // The name with this pid, which may not be held, in the s_group at `at`.
@@ -68,28 +71,12 @@ fn re_register_in(t: &mut [u64], at: usize, n: u32, p: u32) -> Answer
     ensures { λ r. ⌜ ((st : State) → Laid names-per-group st (now (t .entry)) → Regular names-per-group st → (s : ℕ) (w : Seat s at (st .groups)) → Settles s (re-register-in n p (w .group)) st r (now (t .exit))) ⌝ }
 {
     if pid_held(t, at, p) {
-        return Answer {
-            value: Value::False,
-            reason: Reason::PidTaken,
-        };
+        return said(Value::False, Reason::PidTaken);
     }
     if replace_name(t, at, n, p) {
-        return Answer {
-            value: Value::True,
-            reason: Reason::Done,
-        };
+        return done(Value::True);
     }
-    if NAMES_PER_GROUP <= names_count(t, at) {
-        return Answer {
-            value: Value::False,
-            reason: Reason::NamespaceFull,
-        };
-    }
-    add_name(t, at, n, p);
-    Answer {
-        value: Value::True,
-        reason: Reason::Done,
-    }
+    register_new(t, at, n, p)
 }
 
 // The s_group at `at` without the name.
@@ -99,15 +86,9 @@ fn unregister_in(t: &mut [u64], at: usize, n: u32) -> Answer
     ensures { λ r. ⌜ ((st : State) → Laid names-per-group st (now (t .entry)) → Regular names-per-group st → (s : ℕ) (w : Seat s at (st .groups)) → Settles s (unregister-in n (w .group)) st r (now (t .exit))) ⌝ }
 {
     if drop_name(t, at, n) {
-        return Answer {
-            value: Value::True,
-            reason: Reason::Done,
-        };
+        return done(Value::True);
     }
-    Answer {
-        value: Value::True,
-        reason: Reason::NotRegistered,
-    }
+    said(Value::True, Reason::NotRegistered)
 }
 
 // The step of register_name.
@@ -118,19 +99,13 @@ pub fn register_name(t: &mut [u64], caller: u32, s: u32, n: u32, p: u32) -> Answ
     ensures { λ _. ⌜ now (t .exit) ≡ call 0 caller (RegisterName s n p) (now (t .entry)) .table ⌝ }
 {
     let size = t[SIZE_AT] as u32;
-    let r = pid_reason(size, caller, s, n, p);
-    let Reason::Done = r else {
-        return Answer {
-            value: Value::Error,
-            reason: r,
-        };
+    let reason = pid_reason(size, caller, s, n, p);
+    let Reason::Done = reason else {
+        return refused(reason);
     };
     match place_for(t, caller, s) {
         Access::Member(at) => register_in(t, at, n, p),
-        Access::Denied(d) => Answer {
-            value: Value::False,
-            reason: d,
-        },
+        Access::Denied(denial) => said(Value::False, denial),
     }
 }
 
@@ -142,19 +117,13 @@ pub fn re_register_name(t: &mut [u64], caller: u32, s: u32, n: u32, p: u32) -> A
     ensures { λ _. ⌜ now (t .exit) ≡ call 0 caller (ReRegisterName s n p) (now (t .entry)) .table ⌝ }
 {
     let size = t[SIZE_AT] as u32;
-    let r = pid_reason(size, caller, s, n, p);
-    let Reason::Done = r else {
-        return Answer {
-            value: Value::Error,
-            reason: r,
-        };
+    let reason = pid_reason(size, caller, s, n, p);
+    let Reason::Done = reason else {
+        return refused(reason);
     };
     match place_for(t, caller, s) {
         Access::Member(at) => re_register_in(t, at, n, p),
-        Access::Denied(d) => Answer {
-            value: Value::False,
-            reason: d,
-        },
+        Access::Denied(denial) => said(Value::False, denial),
     }
 }
 
@@ -166,18 +135,12 @@ pub fn unregister_name(t: &mut [u64], caller: u32, s: u32, n: u32) -> Answer
     ensures { λ _. ⌜ now (t .exit) ≡ call 0 caller (UnregisterName s n) (now (t .entry)) .table ⌝ }
 {
     let size = t[SIZE_AT] as u32;
-    let r = name_reason(size, caller, s, n);
-    let Reason::Done = r else {
-        return Answer {
-            value: Value::Error,
-            reason: r,
-        };
+    let reason = name_reason(size, caller, s, n);
+    let Reason::Done = reason else {
+        return refused(reason);
     };
     match place_for(t, caller, s) {
         Access::Member(at) => unregister_in(t, at, n),
-        Access::Denied(d) => Answer {
-            value: Value::False,
-            reason: d,
-        },
+        Access::Denied(denial) => said(Value::False, denial),
     }
 }

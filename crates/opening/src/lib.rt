@@ -1,20 +1,20 @@
 // A table opened.
-ghost use mathlib.Core.Path.{_≡_};
-ghost use mathlib.Core.Bool.{cond};
-ghost use Rattle.nodes.specs.Sets.{has, with-node};
-ghost use Rattle.semantics.specs.Steps.{mapi};
-ghost use Rattle.answers.specs.Answers.{answer-of};
-ghost use Rattle.semantics.specs.Call.{opening};
-ghost use Rattle.answers.specs.declared.Value.the-variants.{Error};
 use answers::Answer;
 use answers::Reason;
 use answers::Value;
+use answers::done;
+use answers::refused;
 use layout::BODIES_AT;
 use layout::FREE_AT;
 use layout::HIDDEN_AT;
 use layout::NODE_LIMIT;
 use layout::SIZE_AT;
 use layout::TABLE_WORDS;
+ghost use mathlib.Core.Path.{_≡_};
+ghost use mathlib.Core.Bool.{cond};
+ghost use Rattle.nodes.specs.Sets.{has, with-node};
+ghost use Rattle.semantics.specs.Steps.{mapi};
+ghost use Rattle.semantics.specs.Call.{opening};
 
 // Each node of the set stands in its own word, alone.
 pub fn alone(words: &mut [u64], set: u64)
@@ -31,32 +31,22 @@ pub fn alone(words: &mut [u64], set: u64)
     }
 }
 
-// Error, for a reason.
-fn refusal(reason: Reason) -> Answer
-    ensures { λ r. ⌜ r ≡ answer-of Error reason ⌝ }
-{
-    Answer {
-        value: Value::Error,
-        reason: reason,
-    }
-}
-
 // Opens the table for n nodes, some of them hidden: nobody is grouped or connected, and every normal node is a free group by itself.
 pub fn open(t: &mut [u64], n: u32, hidden: u64) -> Answer
     ensures { λ r. ⌜ r ≡ opening n hidden (now (t .entry)) .answer ⌝ }
     ensures { λ _. ⌜ now (t .exit) ≡ opening n hidden (now (t .entry)) .table ⌝ }
 {
     if t.len() != TABLE_WORDS {
-        return refusal(Reason::TableLength);
+        return refused(Reason::TableLength);
     }
     if n < 1 {
-        return refusal(Reason::RosterSize);
+        return refused(Reason::RosterSize);
     }
     if NODE_LIMIT < n as usize {
-        return refusal(Reason::RosterSize);
+        return refused(Reason::RosterSize);
     }
     if nodes::beyond(hidden, n) {
-        return refusal(Reason::NodeUnknown);
+        return refused(Reason::NodeUnknown);
     }
     moves::clear(t);
     t[SIZE_AT] = n as u64;
@@ -65,8 +55,5 @@ pub fn open(t: &mut [u64], n: u32, hidden: u64) -> Answer
         &mut t[FREE_AT..BODIES_AT],
         nodes::diff(nodes::roster(n), hidden),
     );
-    Answer {
-        value: Value::Ok,
-        reason: Reason::Done,
-    }
+    done(Value::Ok)
 }

@@ -2,6 +2,8 @@
 use answers::Answer;
 use answers::Reason;
 use answers::Value;
+use answers::done;
+use answers::refused;
 use inputs::caller_reason;
 use layout::CONTENTS_AT;
 use layout::COUNT_AT;
@@ -66,18 +68,12 @@ pub fn own_nodes(t: &[u64], caller: u32) -> Answer
     ensures { λ r. ⌜ r ≡ call 0 caller OwnNodes (now (t .entry)) .answer ⌝ }
 {
     let size = t[SIZE_AT] as u32;
-    let r = caller_reason(size, caller);
-    let Reason::Done = r else {
-        return Answer {
-            value: Value::Error,
-            reason: r,
-        };
+    let reason = caller_reason(size, caller);
+    let Reason::Done = reason else {
+        return refused(reason);
     };
     let set = own_set(t, caller);
-    Answer {
-        value: Value::Nodes(set, nodes::count(set)),
-        reason: Reason::Done,
-    }
+    done(Value::Nodes(set, nodes::count(set)))
 }
 
 // How many words the list of the node's s_groups has, two for each of the first `count` sets that have the node.
@@ -125,20 +121,14 @@ pub fn own_s_groups(t: &[u64], caller: u32, out: &mut [u64]) -> Answer
     ensures { λ _. ⌜ now (out .exit) ≡ listed-over (call (length (now (out .entry))) caller OwnSGroups (now (t .entry)) .list) (now (out .entry)) ⌝ }
 {
     let size = t[SIZE_AT] as u32;
-    let r = caller_reason(size, caller);
-    let Reason::Done = r else {
-        return Answer {
-            value: Value::Error,
-            reason: r,
-        };
+    let reason = caller_reason(size, caller);
+    let Reason::Done = reason else {
+        return refused(reason);
     };
     let count = t[COUNT_AT] as usize;
     let words = own_length(&t[MEMBERS_AT..LINKS_AT], count, caller);
     if out.len() < words {
-        return Answer {
-            value: Value::Error,
-            reason: Reason::RunShort,
-        };
+        return refused(Reason::RunShort);
     }
     write_own(
         &t[CONTENTS_AT..MEMBERS_AT],
@@ -147,8 +137,5 @@ pub fn own_s_groups(t: &[u64], caller: u32, out: &mut [u64]) -> Answer
         caller,
         out,
     );
-    Answer {
-        value: Value::Listed(words),
-        reason: Reason::Done,
-    }
+    done(Value::Listed(words))
 }

@@ -3,6 +3,9 @@
 use answers::Answer;
 use answers::Reason;
 use answers::Value;
+use answers::done;
+use answers::refused;
+use answers::said;
 use connecting::connect;
 use entries::PIDS_PER_HOST;
 use inputs::asking_reason;
@@ -26,24 +29,16 @@ pub fn whereis_name_at(t: &mut [u64], caller: u32, node: u32, s: u32, n: u32) ->
     ensures { λ r. ⌜ r ≡ call 0 caller (WhereisNameAt node s n) (now (t .entry)) .answer ⌝ }
     ensures { λ _. ⌜ now (t .exit) ≡ call 0 caller (WhereisNameAt node s n) (now (t .entry)) .table ⌝ }
 {
-    let reason = asking_reason(t[SIZE_AT] as u32, caller, node, s, n);
+    let size = t[SIZE_AT] as u32;
+    let reason = asking_reason(size, caller, node, s, n);
     let Reason::Done = reason else {
-        return Answer {
-            value: Value::Error,
-            reason,
-        };
+        return refused(reason);
     };
     let seen = look(t, node, s, n);
     connect(t, caller, node);
     match seen {
-        Lookup::Found(p) => Answer {
-            value: Value::Pid(p),
-            reason: Reason::Done,
-        },
-        Lookup::Missing(why) => Answer {
-            value: Value::Undefined,
-            reason: why,
-        },
+        Lookup::Found(p) => done(Value::Pid(p)),
+        Lookup::Missing(why) => said(Value::Undefined, why),
     }
 }
 
@@ -54,18 +49,13 @@ pub fn send(t: &mut [u64], caller: u32, p: u32) -> Answer
     ensures { λ r. ⌜ r ≡ call 0 caller (Send p) (now (t .entry)) .answer ⌝ }
     ensures { λ _. ⌜ now (t .exit) ≡ call 0 caller (Send p) (now (t .entry)) .table ⌝ }
 {
-    let reason = host_reason(t[SIZE_AT] as u32, caller, p);
+    let size = t[SIZE_AT] as u32;
+    let reason = host_reason(size, caller, p);
     let Reason::Done = reason else {
-        return Answer {
-            value: Value::Error,
-            reason,
-        };
+        return refused(reason);
     };
     connect(t, caller, p / PIDS_PER_HOST);
-    Answer {
-        value: Value::Pid(p),
-        reason: Reason::Done,
-    }
+    done(Value::Pid(p))
 }
 
 // A send to the pid that the caller finds under the name.
@@ -75,25 +65,17 @@ pub fn send_name(t: &mut [u64], caller: u32, s: u32, n: u32) -> Answer
     ensures { λ r. ⌜ r ≡ call 0 caller (SendName s n) (now (t .entry)) .answer ⌝ }
     ensures { λ _. ⌜ now (t .exit) ≡ call 0 caller (SendName s n) (now (t .entry)) .table ⌝ }
 {
-    let reason = name_reason(t[SIZE_AT] as u32, caller, s, n);
+    let size = t[SIZE_AT] as u32;
+    let reason = name_reason(size, caller, s, n);
     let Reason::Done = reason else {
-        return Answer {
-            value: Value::Error,
-            reason,
-        };
+        return refused(reason);
     };
     match look(t, caller, s, n) {
         Lookup::Found(p) => {
             connect(t, caller, p / PIDS_PER_HOST);
-            Answer {
-                value: Value::Pid(p),
-                reason: Reason::Done,
-            }
+            done(Value::Pid(p))
         }
-        Lookup::Missing(why) => Answer {
-            value: Value::Undefined,
-            reason: why,
-        },
+        Lookup::Missing(why) => said(Value::Undefined, why),
     }
 }
 
@@ -104,26 +86,18 @@ pub fn send_at(t: &mut [u64], caller: u32, node: u32, s: u32, n: u32) -> Answer
     ensures { λ r. ⌜ r ≡ call 0 caller (SendAt node s n) (now (t .entry)) .answer ⌝ }
     ensures { λ _. ⌜ now (t .exit) ≡ call 0 caller (SendAt node s n) (now (t .entry)) .table ⌝ }
 {
-    let reason = asking_reason(t[SIZE_AT] as u32, caller, node, s, n);
+    let size = t[SIZE_AT] as u32;
+    let reason = asking_reason(size, caller, node, s, n);
     let Reason::Done = reason else {
-        return Answer {
-            value: Value::Error,
-            reason,
-        };
+        return refused(reason);
     };
     let found = look(t, node, s, n);
     connect(t, caller, node);
     match found {
         Lookup::Found(pid) => {
             connect(t, caller, pid / PIDS_PER_HOST);
-            Answer {
-                value: Value::Pid(pid),
-                reason: Reason::Done,
-            }
+            done(Value::Pid(pid))
         }
-        Lookup::Missing(why) => Answer {
-            value: Value::Undefined,
-            reason: why,
-        },
+        Lookup::Missing(why) => said(Value::Undefined, why),
     }
 }

@@ -2,6 +2,9 @@
 use answers::Answer;
 use answers::Reason;
 use answers::Value;
+use answers::done;
+use answers::refused;
+use answers::said;
 use entries::Counted;
 use inputs::group_reason;
 use inputs::name_reason;
@@ -38,14 +41,8 @@ fn list_names(t: &[u64], at: usize, s: u32, out: &mut [u64]) -> Answer
     let start = BODIES_AT + NAMES_PER_GROUP * at;
     let end = start + NAMES_PER_GROUP;
     match namespace::list_names(&t[start..end], count, s, out) {
-        Counted::Of(words) => Answer {
-            value: Value::Listed(words),
-            reason: Reason::Done,
-        },
-        Counted::Unfit => Answer {
-            value: Value::Error,
-            reason: Reason::RunShort,
-        },
+        Counted::Of(words) => done(Value::Listed(words)),
+        Counted::Unfit => refused(Reason::RunShort),
     }
 }
 
@@ -57,19 +54,13 @@ pub fn registered_names(t: &[u64], caller: u32, s: u32, out: &mut [u64]) -> Answ
     ensures { λ _. ⌜ now (out .exit) ≡ listed-over (call (length (now (out .entry))) caller (RegisteredNames s) (now (t .entry)) .list) (now (out .entry)) ⌝ }
 {
     let size = t[SIZE_AT] as u32;
-    let r = group_reason(size, caller, s);
-    let Reason::Done = r else {
-        return Answer {
-            value: Value::Error,
-            reason: r,
-        };
+    let reason = group_reason(size, caller, s);
+    let Reason::Done = reason else {
+        return refused(reason);
     };
     match place_for(t, caller, s) {
         Access::Member(at) => list_names(t, at, s, out),
-        Access::Denied(d) => Answer {
-            value: Value::Listed(0),
-            reason: d,
-        },
+        Access::Denied(denial) => said(Value::Listed(0), denial),
     }
 }
 
@@ -80,21 +71,12 @@ pub fn whereis_name(t: &[u64], caller: u32, s: u32, n: u32) -> Answer
     ensures { λ r. ⌜ r ≡ call 0 caller (WhereisName s n) (now (t .entry)) .answer ⌝ }
 {
     let size = t[SIZE_AT] as u32;
-    let r = name_reason(size, caller, s, n);
-    let Reason::Done = r else {
-        return Answer {
-            value: Value::Error,
-            reason: r,
-        };
+    let reason = name_reason(size, caller, s, n);
+    let Reason::Done = reason else {
+        return refused(reason);
     };
     match look(t, caller, s, n) {
-        Lookup::Found(p) => Answer {
-            value: Value::Pid(p),
-            reason: Reason::Done,
-        },
-        Lookup::Missing(d) => Answer {
-            value: Value::Undefined,
-            reason: d,
-        },
+        Lookup::Found(p) => done(Value::Pid(p)),
+        Lookup::Missing(why) => said(Value::Undefined, why),
     }
 }

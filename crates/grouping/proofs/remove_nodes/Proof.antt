@@ -16,21 +16,25 @@ use Rattle.inputs.proofs.Reasons.{not-done}
 use Rattle.grouping.proofs.remove_nodes.Statement.{statement}
 use Rattle.grouping.proofs.remove_nodes.Tie as tie
 
+-- the start of the step
+abbrev start : tie.After-enum-told → tie.Start
+start c = c .before .before .before .before .before
+
 -- the caller is a member of the s_group that is found
-found : (c : tie.After-known-told2) → let a = c .before .before .before .before .before .before .before .before .before .before .args in Open (a .caller) (a .s) (c .before .at .given .0 .0) (here (a .t .now) .groups)
+found : (c : tie.After-known-told2) → let a = start (c .before .before .before .before .before) .args in Open (a .caller) (a .s) (c .before .at .given .0 .0) (here (a .t .now) .groups)
 found c =
-    let p = c .before .before .before .before .before .before .before .before .before .before in
-    let f = c .before .before .before .place-for in
-    granted-here (p .args .t .now) (p .pre .1) (p .args .caller) (p .args .s) (f .result) (Member (c .before .at .given .0 .0)) (f .ensures) (c .before .at .given .1)
+    let f = c .before .before .before in
+    let p = start (f .before .before) in
+    granted-here (p .args .t .now) (p .pre .1) (p .args .caller) (p .args .s) (f .place-for .result) (Member (c .before .at .given .0 .0)) (f .place-for .ensures) (c .before .at .given .1)
 
 few : (c : tie.After-known-told2) → c .before .at .given .0 .0 < group-limit
-few c = let p = c .before .before .before .before .before .before .before .before .before .before in seat-few (p .args .t .now) (p .pre .1) (found c .seat)
+few c = let p = start (c .before .before .before .before .before) in seat-few (p .args .t .now) (p .pre .1) (found c .seat)
 
-slice-read-set-reason : tie.Need-slice-read-set-reason
-slice-read-set-reason c = search needs
+slice-read-size : tie.Need-slice-read-size
+slice-read-size c = search needs
 
-cast-set-reason : tie.Need-cast-set-reason
-cast-set-reason c = let p = c .before .before in omega (arith, nodes-few (p .args .t .now) (p .pre .1))
+cast-size : tie.Need-cast-size
+cast-size c = let p = c .before .before in omega (arith, nodes-few (p .args .t .now) (p .pre .1))
 
 set-reason-requires : tie.Need-set-reason-requires
 set-reason-requires c κs = search needs
@@ -38,18 +42,24 @@ set-reason-requires c κs = search needs
 enum-told : tie.Need-enum-told
 enum-told c = search needs
 
+refused-requires : tie.Need-refused-requires
+refused-requires c κs = search needs
+
 returns : tie.Need-returns
 unfolding state-of
 returns c =
-    let p = c .before .before .before .before in
-    says-kept (p .args .t .now) (p .pre .1)
-    (refused (step-removed 0 (p .args .caller) (here (p .args .t .now)) (p .args .s) (p .args .set) .judging) (c .before .set-reason .ensures) (not-done (c .before .set-reason .result) (c .match .keys2)))
+    let p = c .before .before .before .before .before in
+    rw (c .refused .ensures) (says-kept (p .args .t .now) (p .pre .1)
+    (refused (step-removed 0 (p .args .caller) (here (p .args .t .now)) (p .args .s) (p .args .set) .judging) (c .before .before .set-reason .ensures) (not-done (c .before .before .set-reason .result) (c .before .match .keys2))))
 
 place-for-requires : tie.Need-place-for-requires
 place-for-requires c κs = search needs
 
 enum-known-denial : tie.Need-enum-known-denial
 enum-known-denial c = search needs
+
+refused-requires-2 : tie.Need-refused-requires-2
+refused-requires-2 c κs = search needs
 
 enum-known-at : tie.Need-enum-known-at
 enum-known-at c = search needs
@@ -61,18 +71,22 @@ mul-members : tie.Need-mul-members
 mul-members c = omega (arith, few c)
 
 slice-read-members : tie.Need-slice-read-members
-slice-read-members c = omega (arith, few (c .before), c .before .before .before .before .before .before .before .before .before .before .before .pre .0)
+slice-read-members c = omega (arith, few (c .before), start (c .before .before .before .before .before .before) .pre .0)
 
 diff-requires : tie.Need-diff-requires
 diff-requires c κs = search needs
 
 delete-group-requires : tie.Need-delete-group-requires
 delete-group-requires c κs =
-    let p = c .before .before .before .before .before .before .before .before .before .before .before .before .before .before in
-    (p .pre .0, (groups-few (p .args .t .now) (p .pre .1), seat-below (p .args .t .now) (p .pre .1) (found (c .before .before .before .before) .seat)))
+    let k = c .before .before .before .before in
+    let p = start (k .before .before .before .before .before) in
+    (p .pre .0, (groups-few (p .args .t .now) (p .pre .1), seat-below (p .args .t .now) (p .pre .1) (found k .seat)))
 
 become-free-requires : tie.Need-become-free-requires
 become-free-requires c κs = search needs
+
+done-requires : tie.Need-done-requires
+done-requires c κs = search needs
 
 same-length : tie.Need-same-length
 same-length c = search needs
@@ -80,15 +94,18 @@ same-length c = search needs
 returns-2 : tie.Need-returns-2
 unfolding state-of become-free
 returns-2 c =
-    let f = c .before .before .become-free in
-    let d = c .before .before .before .before .before .before .delete-group in
-    let k = c .before .before .before .before .before .before .before .before .before .before .before in
-    let p = k .before .before .before .before .before .before .before .before .before .before in
+    let f = c .before .before .before in
+    let e = f .before .before .before .before in
+    let i = e .before .before in
+    let d = i .before in
+    let k = d .before .before in
+    let j = k .before .before .before .before .before in
+    let p = start j in
     let t = p .args .t .now in
     let r = found k .seat in
-    remove-all t (p .pre .1) (p .args .caller) (p .args .s) (p .args .set) (k .before .before .before .before .before .before .before .set-reason .ensures) (k .before .before .before .before .before .enum-told .given .1) (found k)
-    (c .before .before .before .before .before .before .before .before .before .diff .result) (c .before .before .before .before .before .before .before .before .before .diff .ensures) (f .last .0) (c .before .before .before .before .before .before .before .before .if1 .taken)
-    (f .ensures _ (d .ensures (here t) (base t (p .pre .1)) (r .before) (r .after) (r .group) (r .is) (r .stands)) (apart-deleted t (p .pre .1) r))
+    rw (c .done .ensures) (remove-all t (p .pre .1) (p .args .caller) (p .args .s) (p .args .set) (j .before .before .set-reason .ensures) (j .enum-told .given .1) (found k)
+    (d .diff .result) (d .diff .ensures) (f .become-free .last .0) (i .if1 .taken)
+    (f .become-free .ensures _ (e .delete-group .ensures (here t) (base t (p .pre .1)) (r .before) (r .after) (r .group) (r .is) (r .stands)) (apart-deleted t (p .pre .1) r)))
 
 set-members-requires : tie.Need-set-members-requires
 set-members-requires c κs = (search needs, few (c .before .before .before .before))
@@ -99,18 +116,23 @@ inter-requires c κs = search needs
 become-free-requires-2 : tie.Need-become-free-requires-2
 become-free-requires-2 c κs = search needs
 
+done-requires-2 : tie.Need-done-requires-2
+done-requires-2 c κs = search needs
+
 same-length-2 : tie.Need-same-length-2
 same-length-2 c = search needs
 
 returns-3 : tie.Need-returns-3
 unfolding state-of
 returns-3 c =
-    let p = c .before .before .before .before .before .before .before .before .before .before in
+    let d = c .before .before in
+    let f = d .before .before in
+    let j = f .before .before in
+    let p = start j in
     let t = p .args .t .now in
-    let f = c .before .before .before .place-for in
-    says-kept t (p .pre .1)
-    (turned-away (step-removed 0 (p .args .caller) (here t) (p .args .s) (p .args .set)) (c .before .before .before .before .before .before .before .set-reason .ensures) (c .before .before .before .before .before .enum-told .given .1)
-    (granted-here t (p .pre .1) (p .args .caller) (p .args .s) (f .result) (Denied (c .before .denial .given .0 .0)) (f .ensures) (c .before .denial .given .1)))
+    rw (c .refused2 .ensures) (says-kept t (p .pre .1)
+    (turned-away (step-removed 0 (p .args .caller) (here t) (p .args .s) (p .args .set)) (j .before .before .set-reason .ensures) (j .enum-told .given .1)
+    (granted-here t (p .pre .1) (p .args .caller) (p .args .s) (f .place-for .result) (Denied (d .denial .given .0 .0)) (f .place-for .ensures) (d .denial .given .1))))
 
 same-length-3 : tie.Need-same-length-3
 same-length-3 c = search needs
@@ -118,29 +140,34 @@ same-length-3 c = search needs
 returns-4 : tie.Need-returns-4
 unfolding state-of become-free
 returns-4 c =
-    let f = c .before .before .become-free2 in
-    let m = c .before .before .before .before .before .before .before .set-members in
-    let d = c .before .before .before .before .before .before .before .before .before .before .diff in
-    let k = c .before .before .before .before .before .before .before .before .before .before .before .before in
-    let p = k .before .before .before .before .before .before .before .before .before .before in
+    let f = c .before .before .before in
+    let n = f .before in
+    let m = n .before .before .before .before in
+    let i = m .before .before in
+    let d = i .before in
+    let k = d .before .before in
+    let j = k .before .before .before .before .before in
+    let p = start j in
     let t = p .args .t .now in
     let r = found k .seat in
-    remove-left t (p .pre .1) (p .args .caller) (p .args .s) (p .args .set) (k .before .before .before .before .before .before .before .set-reason .ensures) (k .before .before .before .before .before .enum-told .given .1) (found k)
-    (d .result) (d .ensures) (f .last .0) (c .before .before .before .before .before .before .before .before .before .if1 .left) (c .before .before .before .inter .result) (c .before .before .before .inter .ensures)
-    (f .ensures _ (m .ensures (here t) (base t (p .pre .1)) (r .before) (r .after) (r .group) (r .is) (r .stands))
-    (apart-left t (p .pre .1) r (p .args .set) (d .result) (d .ensures)))
+    rw (c .done2 .ensures) (remove-left t (p .pre .1) (p .args .caller) (p .args .s) (p .args .set) (j .before .before .set-reason .ensures) (j .enum-told .given .1) (found k)
+    (d .diff .result) (d .diff .ensures) (f .become-free2 .last .0) (i .if1 .left) (n .inter .result) (n .inter .ensures)
+    (f .become-free2 .ensures _ (m .set-members .ensures (here t) (base t (p .pre .1)) (r .before) (r .after) (r .group) (r .is) (r .stands))
+    (apart-left t (p .pre .1) r (p .args .set) (d .diff .result) (d .diff .ensures))))
 
 pub remove-nodes-spec : {M : Type 1} → statement M
 remove-nodes-spec =
     tie.close
     (tie.spec
-    slice-read-set-reason
-    cast-set-reason
+    slice-read-size
+    cast-size
     set-reason-requires
     enum-told
+    refused-requires
     returns
     place-for-requires
     enum-known-denial
+    refused-requires-2
     enum-known-at
     add-members
     mul-members
@@ -148,11 +175,13 @@ remove-nodes-spec =
     diff-requires
     delete-group-requires
     become-free-requires
+    done-requires
     same-length
     returns-2
     set-members-requires
     inter-requires
     become-free-requires-2
+    done-requires-2
     same-length-2
     returns-3
     same-length-3

@@ -3,16 +3,15 @@
 use borrow.Author.Needs.{needs}
 use mathlib.Core.Path.{_≡_, sym, _∙_}
 use mathlib.Core.Bool.{false}
-use native.Mathlib.Omega.{arith}
 use Rattle.entries.specs.Entries.{lookup}
 use Rattle.semantics.specs.Sizes.{names-per-group}
 use Rattle.semantics.specs.State.{State}
 use Rattle.semantics.specs.Ranges.{held}
-use Rattle.semantics.specs.NamesKept.{not-held}
 use Rattle.semantics.specs.WordsOfState.{Laid}
 use Rattle.names.specs.NamesAt.{Standing, names-at}
 use Rattle.names.specs.NamesHere.{standing}
-use Rattle.returns.specs.Settled.{not-replaced, pid-held-already, replaced, no-room-anew, registered-anew}
+use Rattle.returns.specs.Settled.{not-replaced, pid-held-already, replaced}
+use Rattle.naming.specs.Anew.{anew}
 use Rattle.naming.proofs.re_register_in.Statement.{statement}
 use Rattle.naming.proofs.re_register_in.Tie as tie
 
@@ -32,77 +31,66 @@ still c st l g =
 pid-held-requires : tie.Need-pid-held-requires
 pid-held-requires c κs = search needs
 
+said-requires : tie.Need-said-requires
+said-requires c κs = search needs
+
 same-length : tie.Need-same-length
 same-length c = search needs
 
 returns : tie.Need-returns
 returns c =
-    let h = c .before in
+    let h = c .before .before in
     let a = h .before .before .before .args in
-    λ st l r s w. pid-held-already l w r (a .n) (a .p) (sym (h .pid-held .ensures st l (standing r w)) ∙ c .if1 .taken)
+    λ st l r s w.
+    rw (c .said .ensures) (pid-held-already l w r (a .n) (a .p) (sym (h .pid-held .ensures st l (standing r w)) ∙ c .before .if1 .taken))
 
 replace-name-requires : tie.Need-replace-name-requires
 replace-name-requires c κs = search needs
+
+done-requires : tie.Need-done-requires
+done-requires c κs = search needs
 
 same-length-2 : tie.Need-same-length-2
 same-length-2 c = search needs
 
 returns-2 : tie.Need-returns-2
 returns-2 c =
-    let d = c .before .before .before in
+    let d = c .before .before .before .before in
     let i = d .before .before in
     let a = i .before .before .before .before .args in
     λ st l r s w.
-    replaced l w r (a .n) (a .p) (sym (i .before .pid-held .ensures st l (standing r w)) ∙ i .if1 .left) (sym (d .replace-name .ensures .0 st l (standing r w)) ∙ c .if2 .taken)
-    (d .replace-name .last .0) (d .replace-name .ensures .1 st l (standing r w))
+    rw (c .done .ensures) (replaced l w r (a .n) (a .p) (sym (i .before .pid-held .ensures st l (standing r w)) ∙ i .if1 .left) (sym (d .replace-name .ensures .0 st l (standing r w)) ∙ c .before .if2 .taken)
+    (d .replace-name .last .0) (d .replace-name .ensures .1 st l (standing r w)))
 
-names-count-requires : tie.Need-names-count-requires
-names-count-requires c κs = search needs
+register-new-requires : tie.Need-register-new-requires
+register-new-requires c κs = search needs
 
 same-length-3 : tie.Need-same-length-3
 same-length-3 c = search needs
 
 returns-3 : tie.Need-returns-3
 returns-3 c =
-    let q = c .before in
-    let e = q .before .before in
+    let d = c .before .before in
+    let e = d .before .before in
     let i = e .before .before .before .before .before in
     let a = i .before .before .before .before .args in
     λ st l r s w.
-    no-room-anew (still e st l (standing r w)) w r (a .n) (a .p) (sym (i .before .pid-held .ensures st l (standing r w)) ∙ i .if1 .left) (absent e st l (standing r w))
-    (omega (arith, q .names-count .ensures, c .if3 .taken))
-
-add-name-requires : tie.Need-add-name-requires
-add-name-requires c κs = search needs
-
-same-length-4 : tie.Need-same-length-4
-same-length-4 c = search needs
-
-returns-4 : tie.Need-returns-4
-returns-4 c =
-    let z = c .before .before in
-    let f = z .before .before in
-    let e = f .before .before .before in
-    let i = e .before .before .before .before .before in
-    let a = i .before .before .before .before .args in
-    λ st l r s w.
-    registered-anew (still e st l (standing r w)) w r (a .n) (a .p) (sym (i .before .pid-held .ensures st l (standing r w)) ∙ i .if1 .left) (absent e st l (standing r w))
-    (omega (arith, f .before .names-count .ensures, f .if3 .left)) (z .add-name .last .0)
-    (z .add-name .ensures st (still e st l (standing r w)) (standing r w) (not-held _ (absent e st l (standing r w))))
+    let missing = absent e st l (standing r w) in
+    let fresh = sym (i .before .pid-held .ensures st l (standing r w)) ∙ i .if1 .left in
+    anew st w (a .n) (a .p) missing fresh (d .register-new .ensures st (still e st l (standing r w)) r s w missing fresh)
 
 pub re-register-in-spec : {M : Type 1} → statement M
 re-register-in-spec =
     tie.close
     (tie.spec
     pid-held-requires
+    said-requires
     same-length
     returns
     replace-name-requires
+    done-requires
     same-length-2
     returns-2
-    names-count-requires
+    register-new-requires
     same-length-3
-    returns-3
-    add-name-requires
-    same-length-4
-    returns-4)
+    returns-3)

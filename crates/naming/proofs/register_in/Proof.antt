@@ -1,18 +1,16 @@
--- `naming::register_in` meets its contract: each return is a case of the rule, and the names are put anew in the last.
+-- `naming::register_in` meets its contract: each return is a case of the rule, and the last is that of a new name.
 -- Assumes nothing.
 use borrow.Author.Needs.{needs}
 use mathlib.Core.Path.{_≡_, sym, _∙_}
 use mathlib.Core.Bool.{false}
-use native.Mathlib.Omega.{arith}
 use Rattle.entries.specs.Entries.{lookup, rank}
 use Rattle.semantics.specs.Sizes.{names-per-group}
 use Rattle.semantics.specs.State.{State}
 use Rattle.semantics.specs.Ranges.{held}
-use Rattle.semantics.specs.NamesKept.{not-held}
 use Rattle.semantics.specs.WordsOfState.{Laid}
 use Rattle.names.specs.NamesAt.{Standing, names-at}
 use Rattle.names.specs.NamesHere.{standing}
-use Rattle.returns.specs.Settled.{name-taken, pid-taken, no-room, registered}
+use Rattle.returns.specs.Settled.{name-taken, pid-taken}
 use Rattle.names.proofs.Changes.{found-held, found-absent}
 use Rattle.naming.proofs.register_in.Statement.{statement}
 use Rattle.naming.proofs.register_in.Tie as tie
@@ -30,62 +28,49 @@ find-name-requires c κs = search needs
 enum-told : tie.Need-enum-told
 enum-told c = search needs
 
+said-requires : tie.Need-said-requires
+said-requires c κs = search needs
+
 same-length : tie.Need-same-length
 same-length c = search needs
 
 returns : tie.Need-returns
 returns c =
-    let f = c .before .before in
+    let f = c .before .before .before in
     let a = f .before .before .before .args in
     λ st l r s w.
-    name-taken l w r (a .n) (a .p)
-    (found-held (rank (a .n) (names-at (a .at) st)) (f .find-name .result) (lookup (a .n) (names-at (a .at) st)) (f .find-name .ensures st l (standing r w)) (c .enum-told .given .1))
+    rw (c .said .ensures) (name-taken l w r (a .n) (a .p)
+    (found-held (rank (a .n) (names-at (a .at) st)) (f .find-name .result) (lookup (a .n) (names-at (a .at) st)) (f .find-name .ensures st l (standing r w)) (c .before .enum-told .given .1)))
 
 pid-held-requires : tie.Need-pid-held-requires
 pid-held-requires c κs = search needs
+
+said-requires-2 : tie.Need-said-requires-2
+said-requires-2 c κs = search needs
 
 same-length-2 : tie.Need-same-length-2
 same-length-2 c = search needs
 
 returns-2 : tie.Need-returns-2
 returns-2 c =
-    let h = c .before in
+    let h = c .before .before in
     let k = h .before .before in
     let a = k .before .before .before .before .args in
-    λ st l r s w. pid-taken l w r (a .n) (a .p) (absent k st l (standing r w)) (sym (h .pid-held .ensures st l (standing r w)) ∙ c .if1 .taken)
+    λ st l r s w.
+    rw (c .said2 .ensures) (pid-taken l w r (a .n) (a .p) (absent k st l (standing r w)) (sym (h .pid-held .ensures st l (standing r w)) ∙ c .before .if1 .taken))
 
-names-count-requires : tie.Need-names-count-requires
-names-count-requires c κs = search needs
+register-new-requires : tie.Need-register-new-requires
+register-new-requires c κs = search needs
 
 same-length-3 : tie.Need-same-length-3
 same-length-3 c = search needs
 
 returns-3 : tie.Need-returns-3
 returns-3 c =
-    let q = c .before in
-    let i = q .before .before in
-    let k = i .before .before .before in
-    let a = k .before .before .before .before .args in
-    λ st l r s w.
-    no-room l w r (a .n) (a .p) (absent k st l (standing r w)) (sym (i .before .pid-held .ensures st l (standing r w)) ∙ i .if1 .left) (omega (arith, q .names-count .ensures, c .if2 .taken))
-
-add-name-requires : tie.Need-add-name-requires
-add-name-requires c κs = search needs
-
-same-length-4 : tie.Need-same-length-4
-same-length-4 c = search needs
-
-returns-4 : tie.Need-returns-4
-returns-4 c =
     let d = c .before .before in
-    let q = d .before .before in
-    let i = q .before .before .before in
+    let i = d .before .before in
     let k = i .before .before .before in
-    let a = k .before .before .before .before .args in
-    λ st l r s w.
-    registered l w r (a .n) (a .p) (absent k st l (standing r w)) (sym (i .before .pid-held .ensures st l (standing r w)) ∙ i .if1 .left)
-    (omega (arith, q .before .names-count .ensures, q .if2 .left)) (d .add-name .last .0)
-    (d .add-name .ensures st l (standing r w) (not-held _ (absent k st l (standing r w))))
+    λ st l r s w. d .register-new .ensures st l r s w (absent k st l (standing r w)) (sym (i .before .pid-held .ensures st l (standing r w)) ∙ i .if1 .left)
 
 pub register-in-spec : {M : Type 1} → statement M
 register-in-spec =
@@ -93,14 +78,13 @@ register-in-spec =
     (tie.spec
     find-name-requires
     enum-told
+    said-requires
     same-length
     returns
     pid-held-requires
+    said-requires-2
     same-length-2
     returns-2
-    names-count-requires
+    register-new-requires
     same-length-3
-    returns-3
-    add-name-requires
-    same-length-4
-    returns-4)
+    returns-3)

@@ -11,12 +11,16 @@ use Rattle.inputs.proofs.Reasons.{not-done}
 use Rattle.naming.proofs.register_name.Statement.{statement}
 use Rattle.naming.proofs.register_name.Tie as tie
 
+-- the start of the step
+abbrev start : tie.After-enum-told → tie.Start
+start c = c .before .before .before .before .before
+
 -- the caller is a member of the s_group
-open-here : (c : tie.After-known-told) → let a = c .before .before .before .before .before .before .before .before .before .before .args in
+open-here : (c : tie.After-known-told) → let a = start (c .before .before .before .before .before) .args in
     Open (a .caller) (a .s) (c .before .at .given .0 .0) (here (a .t .now) .groups)
 open-here c =
     let f = c .before .before .before in
-    let p = f .before .before .before .before .before .before .before in
+    let p = start (f .before .before) in
     opened (p .args .t .now) (p .pre .1) (p .args .caller) (p .args .s) (f .place-for .result) (f .place-for .ensures) (c .before .at .given .1)
 
 slice-read-size : tie.Need-slice-read-size
@@ -31,12 +35,15 @@ pid-reason-requires c κs = search needs
 enum-told : tie.Need-enum-told
 enum-told c = search needs
 
+refused-requires : tie.Need-refused-requires
+refused-requires c κs = search needs
+
 returns : tie.Need-returns
 unfolding state-of
 returns c =
-    let p = c .before .before .before .before in
-    says-refused (p .args .t .now) (p .pre .1) (step-register 0 (p .args .caller) (here (p .args .t .now)) (p .args .s) (p .args .n) (p .args .p)) (c .before .pid-reason .ensures)
-    (not-done (c .before .pid-reason .result) (c .match .keys2))
+    let p = c .before .before .before .before .before in
+    rw (c .refused .ensures) (says-refused (p .args .t .now) (p .pre .1) (step-register 0 (p .args .caller) (here (p .args .t .now)) (p .args .s) (p .args .n) (p .args .p)) (c .before .before .pid-reason .ensures)
+    (not-done (c .before .before .pid-reason .result) (c .before .match .keys2)))
 
 place-for-requires : tie.Need-place-for-requires
 place-for-requires c κs = search needs
@@ -46,11 +53,15 @@ enum-known-at c = search needs
 
 register-in-requires : tie.Need-register-in-requires
 register-in-requires c κs =
-    let p = c .before .before .before .before .before .before .before .before .before .before .before in
-    (p .pre .0, open-below (p .args .t .now) (p .pre .1) (open-here (c .before)))
+    let k = c .before in
+    let p = start (k .before .before .before .before .before) in
+    (p .pre .0, open-below (p .args .t .now) (p .pre .1) (open-here k))
 
-enum-known-d : tie.Need-enum-known-d
-enum-known-d c = search needs
+enum-known-denial : tie.Need-enum-known-denial
+enum-known-denial c = search needs
+
+said-requires : tie.Need-said-requires
+said-requires c κs = search needs
 
 same-length : tie.Need-same-length
 same-length c = search needs
@@ -62,7 +73,7 @@ returns-2 c =
     let k = d .before .before in
     let f = k .before .before .before in
     let j = f .before .before in
-    let p = j .before .before .before .before .before in
+    let p = start j in
     let t = p .args .t .now in
     says-settled t (p .pre .1) (step-register 0 (p .args .caller) (here (p .args .t .now)) (p .args .s) (p .args .n) (p .args .p)) (j .before .before .pid-reason .ensures) (j .enum-told .given .1) (open-here k)
     (d .register-in .ensures (here t) (base t (p .pre .1)) (regular t (p .pre .1)) (p .args .s) (open-here k .seat))
@@ -73,11 +84,11 @@ same-length-2 c = search needs
 returns-3 : tie.Need-returns-3
 unfolding state-of
 returns-3 c =
-    let f = c .before .before .before in
+    let f = c .before .before .before .before in
     let j = f .before .before in
-    let p = j .before .before .before .before .before in
-    says-denied (p .args .t .now) (p .pre .1) (step-register 0 (p .args .caller) (here (p .args .t .now)) (p .args .s) (p .args .n) (p .args .p)) (j .before .before .pid-reason .ensures) (j .enum-told .given .1)
-    (f .place-for .result) (f .place-for .ensures) (c .before .d .given .1)
+    let p = start j in
+    rw (c .said .ensures) (says-denied (p .args .t .now) (p .pre .1) (step-register 0 (p .args .caller) (here (p .args .t .now)) (p .args .s) (p .args .n) (p .args .p)) (j .before .before .pid-reason .ensures) (j .enum-told .given .1)
+    (f .place-for .result) (f .place-for .ensures) (c .before .before .denial .given .1))
 
 pub register-name-spec : {M : Type 1} → statement M
 register-name-spec =
@@ -87,11 +98,13 @@ register-name-spec =
     cast-size
     pid-reason-requires
     enum-told
+    refused-requires
     returns
     place-for-requires
     enum-known-at
     register-in-requires
-    enum-known-d
+    enum-known-denial
+    said-requires
     same-length
     returns-2
     same-length-2

@@ -10,26 +10,39 @@ use Rattle.naming.proofs.unregister_in.Tie as tie
 drop-name-requires : tie.Need-drop-name-requires
 drop-name-requires c κs = search needs
 
+done-requires : tie.Need-done-requires
+done-requires c κs = search needs
+
 same-length : tie.Need-same-length
 same-length c = search needs
 
 returns : tie.Need-returns
 returns c =
-    let d = c .before .before .before in
+    let d = c .before .before .before .before in
     let a = d .before .before .before .args in
     λ st l r s w.
-    unregistered l w (a .n) (d .drop-name .last .0) (d .drop-name .ensures .1 st l (standing r w)) (sym (d .drop-name .ensures .0 st l (standing r w)) ∙ c .if1 .taken)
+    rw (c .done .ensures) (unregistered l w (a .n) (d .drop-name .last .0) (d .drop-name .ensures .1 st l (standing r w)) (sym (d .drop-name .ensures .0 st l (standing r w)) ∙ c .before .if1 .taken))
+
+said-requires : tie.Need-said-requires
+said-requires c κs = search needs
 
 same-length-2 : tie.Need-same-length-2
 same-length-2 c = search needs
 
 returns-2 : tie.Need-returns-2
 returns-2 c =
-    let d = c .before .before .before in
+    let d = c .before .before .before .before in
     let a = d .before .before .before .args in
     λ st l r s w.
-    not-registered l w (a .n) (d .drop-name .last .0) (d .drop-name .ensures .1 st l (standing r w)) (sym (d .drop-name .ensures .0 st l (standing r w)) ∙ c .if1 .left)
+    rw (c .said .ensures) (not-registered l w (a .n) (d .drop-name .last .0) (d .drop-name .ensures .1 st l (standing r w)) (sym (d .drop-name .ensures .0 st l (standing r w)) ∙ c .before .if1 .left))
 
 pub unregister-in-spec : {M : Type 1} → statement M
 unregister-in-spec =
-    tie.close (tie.spec drop-name-requires same-length returns same-length-2 returns-2)
+    tie.close (tie.spec
+    drop-name-requires
+    done-requires
+    same-length
+    returns
+    said-requires
+    same-length-2
+    returns-2)

@@ -1,4 +1,4 @@
--- `fresh::alone` meets its contract: a walk over the set, in which each member's word becomes that member.
+-- `opening::alone` meets its contract: a walk over the set, in which each member's word becomes that member.
 -- Assumes nothing.
 use borrow.Author.Needs.{needs}
 use mathlib.Core.Logic.{⊎-elim}

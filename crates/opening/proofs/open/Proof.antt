@@ -1,4 +1,4 @@
--- `fresh::open` meets its contract: each refusal leaves the run, and an accepted opening writes every word.
+-- `opening::open` meets its contract: each refused leaves the run, and an accepted opening writes every word.
 -- Assumes nothing.
 use borrow.Author.Needs.{needs}
 use mathlib.Core.Path.{sym, ap, _∙_}
@@ -14,40 +14,40 @@ use Rattle.opening.specs.Opening.{lent-length, opened-words, wrong-run, 
 use Rattle.opening.proofs.open.Statement.{statement}
 use Rattle.opening.proofs.open.Tie as tie
 
-refusal-requires : tie.Need-refusal-requires
-refusal-requires c κs = search needs
+refused-requires : tie.Need-refused-requires
+refused-requires c κs = search needs
 
 returns : tie.Need-returns
 returns c =
     let a = c .before .before .before .args in
     let e = wrong-run (a .n) (a .hidden) (a .t .now) (c .before .if1 .taken) in
-    (c .refusal .ensures ∙ sym (ap (λ (x : Call). x .answer) e), sym (ap (λ (x : Call). x .table) e))
+    (c .refused .ensures ∙ sym (ap (λ (x : Call). x .answer) e), sym (ap (λ (x : Call). x .table) e))
 
-refusal-requires-2 : tie.Need-refusal-requires-2
-refusal-requires-2 c κs = search needs
+refused-requires-2 : tie.Need-refused-requires-2
+refused-requires-2 c κs = search needs
 
 returns-2 : tie.Need-returns-2
 returns-2 c =
     let one = c .before .before in
     let a = one .before .before .args in
     let e = no-nodes (a .n) (a .hidden) (a .t .now) (one .if1 .left) (c .before .if2 .taken) in
-    (c .refusal2 .ensures ∙ sym (ap (λ (x : Call). x .answer) e), sym (ap (λ (x : Call). x .table) e))
+    (c .refused2 .ensures ∙ sym (ap (λ (x : Call). x .answer) e), sym (ap (λ (x : Call). x .table) e))
 
-refusal-requires-3 : tie.Need-refusal-requires-3
-refusal-requires-3 c κs = search needs
+refused-requires-3 : tie.Need-refused-requires-3
+refused-requires-3 c κs = search needs
 
 returns-3 : tie.Need-returns-3
 returns-3 c =
     let two = c .before .before in
     let a = two .before .before .before .args in
     let e = too-many (a .n) (a .hidden) (a .t .now) (two .before .if1 .left) (two .if2 .left) (c .before .if3 .taken) in
-    (c .refusal3 .ensures ∙ sym (ap (λ (x : Call). x .answer) e), sym (ap (λ (x : Call). x .table) e))
+    (c .refused3 .ensures ∙ sym (ap (λ (x : Call). x .answer) e), sym (ap (λ (x : Call). x .table) e))
 
 beyond-requires : tie.Need-beyond-requires
 beyond-requires c κs = search needs
 
-refusal-requires-4 : tie.Need-refusal-requires-4
-refusal-requires-4 c κs = search needs
+refused-requires-4 : tie.Need-refused-requires-4
+refused-requires-4 c κs = search needs
 
 returns-4 : tie.Need-returns-4
 returns-4 c =
@@ -55,7 +55,7 @@ returns-4 c =
     let two = three .before in
     let a = two .before .before .before .args in
     let e = stranger (a .n) (a .hidden) (a .t .now) (two .before .if1 .left) (two .if2 .left) (three .if3 .left) (sym (c .before .before .beyond .ensures) ∙ c .before .if4 .taken) in
-    (c .refusal4 .ensures ∙ sym (ap (λ (x : Call). x .answer) e), sym (ap (λ (x : Call). x .table) e))
+    (c .refused4 .ensures ∙ sym (ap (λ (x : Call). x .answer) e), sym (ap (λ (x : Call). x .table) e))
 
 clear-requires : tie.Need-clear-requires
 clear-requires c κs = search needs
@@ -84,18 +84,21 @@ diff-requires c κs = search needs
 alone-requires : tie.Need-alone-requires
 alone-requires c κs = search needs
 
+done-requires : tie.Need-done-requires
+done-requires c κs = search needs
+
 same-length : tie.Need-same-length
 same-length c =
-    let alone = c .before .before .alone in
-    let clear = c .before .before .before .before .before .before .before .before in
+    let alone = c .before .before .before in
+    let clear = alone .before .before .before .before .before .before in
     let a = clear .before .before .before .before .before .before .before .before .args in
     let u = set (set (clear .clear .last .0) 0 (a .n)) 1 (a .hidden) in
-    lent-length free-at (bodies-at - free-at) u (alone .last .0) (alone .kept .0) ∙ simp length-set (clear .clear .kept .0)
+    lent-length free-at (bodies-at - free-at) u (alone .alone .last .0) (alone .alone .kept .0) ∙ simp length-set (clear .clear .kept .0)
 
 returns-5 : tie.Need-returns-5
 returns-5 c =
-    let low = c .before .before .before in
-    let alone = c .before .before .alone in
+    let alone = c .before .before .before in
+    let low = alone .before in
     let clear = low .before .before .before .before .before in
     let four = clear .before .before in
     let three = four .before .before in
@@ -104,26 +107,26 @@ returns-5 c =
     let u = set (set (clear .clear .last .0) 0 (a .n)) 1 (a .hidden) in
     let part = take (bodies-at - free-at) (drop free-at u) in
     let loose = low .diff .ensures ∙ ap (λ (s : ℕ). diff s (a .hidden)) (low .before .roster .ensures) in
-    let lone = alone .ensures ∙ ap (λ (s : ℕ). mapi (λ i w. cond (has s i) (with-node 0 i) w) 0 part) loose in
+    let lone = alone .alone .ensures ∙ ap (λ (s : ℕ). mapi (λ i w. cond (has s i) (with-node 0 i) w) 0 part) loose in
     let long = three .before .before .if1 .left in
-    let done = accepted (a .n) (a .hidden) t long (three .before .if2 .left) (three .if3 .left) (sym (four .before .beyond .ensures) ∙ four .if4 .left) in (
-      sym (ap (λ (x : Call). x .answer) done),
-      opened-words (a .n) (a .hidden) (three .if3 .left) t u (alone .last .0) long (ap (λ (x : List ℕ). set (set x 0 (a .n)) 1 (a .hidden)) (clear .clear .ensures)) (alone .kept .0) lone
-          ∙ sym (ap (λ (x : Call). x .table) done),
+    let e = accepted (a .n) (a .hidden) t long (three .before .if2 .left) (three .if3 .left) (sym (four .before .beyond .ensures) ∙ four .if4 .left) in (
+      c .done .ensures ∙ sym (ap (λ (x : Call). x .answer) e),
+      opened-words (a .n) (a .hidden) (three .if3 .left) t u (alone .alone .last .0) long (ap (λ (x : List ℕ). set (set x 0 (a .n)) 1 (a .hidden)) (clear .clear .ensures)) (alone .alone .kept .0) lone
+          ∙ sym (ap (λ (x : Call). x .table) e),
     )
 
 pub open-spec : {M : Type 1} → statement M
 open-spec =
     tie.close
     (tie.spec
-    refusal-requires
+    refused-requires
     returns
-    refusal-requires-2
+    refused-requires-2
     returns-2
-    refusal-requires-3
+    refused-requires-3
     returns-3
     beyond-requires
-    refusal-requires-4
+    refused-requires-4
     returns-4
     clear-requires
     slice-write-t
@@ -134,5 +137,6 @@ open-spec =
     roster-requires
     diff-requires
     alone-requires
+    done-requires
     same-length
     returns-5)

@@ -30,12 +30,15 @@ caller-reason-requires c κs = search needs
 enum-told : tie.Need-enum-told
 enum-told c = search needs
 
+refused-requires : tie.Need-refused-requires
+refused-requires c κs = search needs
+
 returns : tie.Need-returns
 unfolding state-of
 returns c =
-    let p = c .before .before .before .before in
-    answers (p .args .t .now) (p .pre .1)
-    (refused (step-own-nodes 0 (p .args .caller) (here (p .args .t .now))) (c .before .caller-reason .ensures) (not-done (c .before .caller-reason .result) (c .match .keys2)))
+    let p = c .before .before .before .before .before in
+    rw (c .refused .ensures) (answers (p .args .t .now) (p .pre .1)
+    (refused (step-own-nodes 0 (p .args .caller) (here (p .args .t .now))) (c .before .before .caller-reason .ensures) (not-done (c .before .before .caller-reason .result) (c .before .match .keys2))))
 
 own-set-requires : tie.Need-own-set-requires
 own-set-requires c κs =
@@ -48,15 +51,18 @@ own-set-requires c κs =
 count-requires : tie.Need-count-requires
 count-requires c κs = search needs
 
+done-requires : tie.Need-done-requires
+done-requires c κs = search needs
+
 returns-2 : tie.Need-returns-2
 unfolding state-of
 returns-2 c =
-    let f = c .before in
+    let f = c .before .before in
     let r = f .before .before .before in
     let p = r .before .before .before in
     let t = p .args .t .now in
-    ap₂ (λ (x y : ℕ). answer-of (Nodes x y) Done) (f .own-set .ensures) (c .count .ensures ∙ ap count (f .own-set .ensures))
-    ∙ answers t (p .pre .1) (passed (step-own-nodes 0 (p .args .caller) (here t)) (r .caller-reason .ensures) (f .before .enum-told .given .1))
+    rw (c .done .ensures) (ap₂ (λ (x y : ℕ). answer-of (Nodes x y) Done) (f .own-set .ensures) (c .before .count .ensures ∙ ap count (f .own-set .ensures))
+    ∙ answers t (p .pre .1) (passed (step-own-nodes 0 (p .args .caller) (here t)) (r .caller-reason .ensures) (f .before .enum-told .given .1)))
 
 pub own-nodes-spec : {M : Type 1} → statement M
 own-nodes-spec =
@@ -66,7 +72,9 @@ own-nodes-spec =
     cast-size
     caller-reason-requires
     enum-told
+    refused-requires
     returns
     own-set-requires
     count-requires
+    done-requires
     returns-2)

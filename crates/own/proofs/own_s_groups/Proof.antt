@@ -31,12 +31,15 @@ caller-reason-requires c κs = search needs
 enum-told : tie.Need-enum-told
 enum-told c = search needs
 
+refused-requires : tie.Need-refused-requires
+refused-requires c κs = search needs
+
 returns : tie.Need-returns
 unfolding state-of
 returns c =
-    let p = c .before .before .before .before .before in
+    let p = c .before .before .before .before .before .before in
     let t = p .args .t .now in
-    lists t (p .pre .1) (p .args .out .now) (refused (step-own-s-groups (length (p .args .out .now)) (p .args .caller) (here t)) (c .before .caller-reason .ensures) (not-done (c .before .caller-reason .result) (c .match .keys2)))
+    rw (c .refused .ensures) (lists t (p .pre .1) (p .args .out .now) (refused (step-own-s-groups (length (p .args .out .now)) (p .args .caller) (here t)) (c .before .before .caller-reason .ensures) (not-done (c .before .before .caller-reason .result) (c .before .match .keys2))))
 
 shared-slice-read-count : tie.Need-shared-slice-read-count
 shared-slice-read-count c = search needs
@@ -53,15 +56,18 @@ part-own-length-end c = search needs
 own-length-requires : tie.Need-own-length-requires
 own-length-requires c κs = let p = c .before .before .before .before .before .before .before .before in omega (arith, groups-few (p .args .t .now) (p .pre .1), p .pre .0)
 
+refused-requires-2 : tie.Need-refused-requires-2
+refused-requires-2 c κs = search needs
+
 returns-2 : tie.Need-returns-2
 unfolding state-of
 returns-2 c =
-    let f = c .before in
+    let f = c .before .before in
     let j = f .before .before .before in
     let p = j .before .before .before .before .before .before in
     let t = p .args .t .now in
-    let w = listed-short (own-list (p .args .caller) (here t .groups)) (p .args .out .now) (omega (arith, c .if1 .taken, f .own-length .ensures, own-count t (p .pre .1) (p .args .caller))) refl in
-    heard t (p .pre .1) (p .args .out .now) (p .args .out .now) (passed (step-own-s-groups (length (p .args .out .now)) (p .args .caller) (here t)) (j .before .before .caller-reason .ensures) (j .enum-told .given .1)) (w .answer) (w .listed)
+    let w = listed-short (own-list (p .args .caller) (here t .groups)) (p .args .out .now) (omega (arith, c .before .if1 .taken, f .own-length .ensures, own-count t (p .pre .1) (p .args .caller))) refl in
+    rw (c .refused2 .ensures) (heard t (p .pre .1) (p .args .out .now) (p .args .out .now) (passed (step-own-s-groups (length (p .args .out .now)) (p .args .caller) (here t)) (j .before .before .caller-reason .ensures) (j .enum-told .given .1)) (w .answer) (w .listed))
 
 sub-write-own : tie.Need-sub-write-own
 sub-write-own c = search needs
@@ -95,13 +101,16 @@ write-own-requires c κs =
       ),
     )
 
+done-requires : tie.Need-done-requires
+done-requires c κs = search needs
+
 same-length : tie.Need-same-length
 same-length c = search needs
 
 returns-3 : tie.Need-returns-3
 unfolding state-of
 returns-3 c =
-    let d = c .before .before in
+    let d = c .before .before .before in
     let k = d .before .before .before .before in
     let f = k .before in
     let j = f .before .before .before in
@@ -109,9 +118,9 @@ returns-3 c =
     let t = p .args .t .now in
     let o = d .write-own .last .1 .1 .1 .1 .0 in
     let many = f .own-length .ensures ∙ own-count t (p .pre .1) (p .args .caller) in
-    let w = listed-fits (own-list (p .args .caller) (here t .groups)) (p .args .out .now) (omega (arith, many, k .if1 .left)) many
+    rw (c .done .ensures) (let w = listed-fits (own-list (p .args .caller) (here t .groups)) (p .args .out .now) (omega (arith, many, k .if1 .left)) many
     (d .write-own .ensures ∙ ap (λ (l : List ℕ). listed-over l (p .args .out .now)) (own-laid (base t (p .pre .1)) (regular t (p .pre .1)) (p .args .caller))) in
-    heard t (p .pre .1) (p .args .out .now) o (passed (step-own-s-groups (length (p .args .out .now)) (p .args .caller) (here t)) (j .before .before .caller-reason .ensures) (j .enum-told .given .1)) (w .answer) (w .listed)
+    heard t (p .pre .1) (p .args .out .now) o (passed (step-own-s-groups (length (p .args .out .now)) (p .args .caller) (here t)) (j .before .before .caller-reason .ensures) (j .enum-told .given .1)) (w .answer) (w .listed))
 
 pub own-s-groups-spec : {M : Type 1} → statement M
 own-s-groups-spec =
@@ -121,12 +130,14 @@ own-s-groups-spec =
     cast-size
     caller-reason-requires
     enum-told
+    refused-requires
     returns
     shared-slice-read-count
     sub-own-length
     part-own-length-start
     part-own-length-end
     own-length-requires
+    refused-requires-2
     returns-2
     sub-write-own
     part-write-own-start
@@ -135,5 +146,6 @@ own-s-groups-spec =
     part-write-own-start-2
     part-write-own-end-2
     write-own-requires
+    done-requires
     same-length
     returns-3)

@@ -14,11 +14,15 @@ use Rattle.inputs.proofs.Reasons.{not-done}
 use Rattle.reaching.proofs.send.Statement.{statement}
 use Rattle.reaching.proofs.send.Tie as tie
 
-slice-read-host-reason : tie.Need-slice-read-host-reason
-slice-read-host-reason c = search needs
+-- the start of the step
+abbrev start : tie.After-enum-told → tie.Start
+start c = c .before .before .before .before .before
 
-cast-host-reason : tie.Need-cast-host-reason
-cast-host-reason c = let p = c .before .before in omega (arith, nodes-few (p .args .t .now) (p .pre .1))
+slice-read-size : tie.Need-slice-read-size
+slice-read-size c = search needs
+
+cast-size : tie.Need-cast-size
+cast-size c = let p = c .before .before in omega (arith, nodes-few (p .args .t .now) (p .pre .1))
 
 host-reason-requires : tie.Need-host-reason-requires
 host-reason-requires c κs = search needs
@@ -26,20 +30,27 @@ host-reason-requires c κs = search needs
 enum-told : tie.Need-enum-told
 enum-told c = search needs
 
+refused-requires : tie.Need-refused-requires
+refused-requires c κs = search needs
+
 returns : tie.Need-returns
 unfolding state-of
 returns c =
-    let p = c .before .before .before .before in
-    says-kept (p .args .t .now) (p .pre .1)
-    (refused (step-send 0 (p .args .caller) (here (p .args .t .now)) (p .args .p)) (c .before .host-reason .ensures) (not-done (c .before .host-reason .result) (c .match .keys2)))
+    let p = c .before .before .before .before .before in
+    rw (c .refused .ensures) (says-kept (p .args .t .now) (p .pre .1)
+    (refused (step-send 0 (p .args .caller) (here (p .args .t .now)) (p .args .p)) (c .before .before .host-reason .ensures) (not-done (c .before .before .host-reason .result) (c .before .match .keys2))))
 
 connect-requires : tie.Need-connect-requires
 unfolding state-of
 connect-requires c κs =
-    let p = c .before .before .before .before .before .before in
+    let j = c .before in
+    let p = start j in
     let t = p .args .t .now in
-    let d = host-done (getD t 0 0) (p .args .caller) (p .args .p) (sym (c .before .before .before .host-reason .ensures) ∙ c .before .enum-told .given .1) in
+    let d = host-done (getD t 0 0) (p .args .caller) (p .args .p) (sym (j .before .before .host-reason .ensures) ∙ j .enum-told .given .1) in
     (p .pre .0, (in-limit t (p .pre .1) (d .0), in-limit t (p .pre .1) (d .1)))
+
+done-requires : tie.Need-done-requires
+done-requires c κs = search needs
 
 same-length : tie.Need-same-length
 same-length c = search needs
@@ -47,21 +58,24 @@ same-length c = search needs
 returns-2 : tie.Need-returns-2
 unfolding state-of
 returns-2 c =
-    let p = c .before .before .before .before .before .before .before .before .before in
+    let k = c .before .before .before in
+    let j = k .before .before in
+    let p = start j in
     let t = p .args .t .now in
-    let k = c .before .before .connect in
-    says t (p .pre .1) (passed (step-send 0 (p .args .caller) (here t) (p .args .p)) (c .before .before .before .before .before .before .host-reason .ensures) (c .before .before .before .before .enum-told .given .1)) (k .last .0)
-    (k .ensures (here t) (base t (p .pre .1)) (regular t (p .pre .1)))
+    rw (c .done .ensures) (says t (p .pre .1) (passed (step-send 0 (p .args .caller) (here t) (p .args .p)) (j .before .before .host-reason .ensures) (j .enum-told .given .1)) (k .connect .last .0)
+    (k .connect .ensures (here t) (base t (p .pre .1)) (regular t (p .pre .1))))
 
 pub send-spec : {M : Type 1} → statement M
 send-spec =
     tie.close
     (tie.spec
-    slice-read-host-reason
-    cast-host-reason
+    slice-read-size
+    cast-size
     host-reason-requires
     enum-told
+    refused-requires
     returns
     connect-requires
+    done-requires
     same-length
     returns-2)

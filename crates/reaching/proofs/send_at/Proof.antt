@@ -20,22 +20,30 @@ use Rattle.inputs.proofs.Reasons.{not-done}
 use Rattle.reaching.proofs.send_at.Statement.{statement}
 use Rattle.reaching.proofs.send_at.Tie as tie
 
+-- the start of the step
+abbrev start : tie.After-enum-told → tie.Start
+start c = c .before .before .before .before .before
+
 -- both nodes are on the roster
-asked : (c : tie.After-enum-told) → let a = c .before .before .before .before .before .args in
+asked : (c : tie.After-enum-told) → let a = start c .args in
     (a .caller < getD (a .t .now) 0 0) × (a .s < group-names) × (0 < a .n) × (a .node < getD (a .t .now) 0 0)
 asked c =
-    let a = c .before .before .before .before .before .args in
+    let a = start c .args in
     asking-done (getD (a .t .now) 0 0) (a .caller) (a .node) (a .s) (a .n) (sym (c .before .before .asking-reason .ensures) ∙ c .enum-told .given .1)
 
+-- the lookup by the node
+abbrev looked : tie.After-connect → tie.After-look
+looked c = c .before .before
+
 -- the pid that is found
-found : (c : tie.After-known-told) → let a = c .before .before .before .before .before .before .before .before .before .before .before .before .before .before .args in looked-up (Found (c .before .found .given .0 .0)) ≡ ask (a .node) (a .s) (a .n) (here (a .t .now))
-found c = ap looked-up (sym (c .before .found .given .1)) ∙ c .before .before .before .before .before .before .before .look .ensures
+found : (c : tie.After-known-told) → let a = start (looked (c .before .before .before .before .before) .before .before) .args in looked-up (Found (c .before .found .given .0 .0)) ≡ ask (a .node) (a .s) (a .n) (here (a .t .now))
+found c = ap looked-up (sym (c .before .found .given .1)) ∙ looked (c .before .before .before .before .before) .look .ensures
 
-slice-read-asking-reason : tie.Need-slice-read-asking-reason
-slice-read-asking-reason c = search needs
+slice-read-size : tie.Need-slice-read-size
+slice-read-size c = search needs
 
-cast-asking-reason : tie.Need-cast-asking-reason
-cast-asking-reason c = let p = c .before .before in omega (arith, nodes-few (p .args .t .now) (p .pre .1))
+cast-size : tie.Need-cast-size
+cast-size c = let p = c .before .before in omega (arith, nodes-few (p .args .t .now) (p .pre .1))
 
 asking-reason-requires : tie.Need-asking-reason-requires
 asking-reason-requires c κs = search needs
@@ -43,13 +51,16 @@ asking-reason-requires c κs = search needs
 enum-told : tie.Need-enum-told
 enum-told c = search needs
 
+refused-requires : tie.Need-refused-requires
+refused-requires c κs = search needs
+
 returns : tie.Need-returns
 unfolding state-of
 returns c =
-    let p = c .before .before .before .before in
+    let p = c .before .before .before .before .before in
     let a = p .args in
-    says-kept (a .t .now) (p .pre .1)
-    (refused (step-send-at 0 (a .caller) (here (a .t .now)) (a .node) (a .s) (a .n)) (c .before .asking-reason .ensures) (not-done (c .before .asking-reason .result) (c .match .keys2)))
+    rw (c .refused .ensures) (says-kept (a .t .now) (p .pre .1)
+    (refused (step-send-at 0 (a .caller) (here (a .t .now)) (a .node) (a .s) (a .n)) (c .before .before .asking-reason .ensures) (not-done (c .before .before .asking-reason .result) (c .before .match .keys2))))
 
 look-requires : tie.Need-look-requires
 look-requires c κs = search needs
@@ -57,8 +68,9 @@ look-requires c κs = search needs
 connect-requires : tie.Need-connect-requires
 unfolding state-of
 connect-requires c κs =
-    let p = c .before .before .before .before .before .before .before .before in
-    let d = asked (c .before .before .before) in
+    let j = c .before .before .before in
+    let p = start j in
+    let d = asked j in
     (p .pre .0, (in-limit (p .args .t .now) (p .pre .1) (d .0), in-limit (p .args .t .now) (p .pre .1) (d .3)))
 
 enum-known-found : tie.Need-enum-known-found
@@ -67,13 +79,21 @@ enum-known-found c = search needs
 connect-requires-2 : tie.Need-connect-requires-2
 unfolding state-of
 connect-requires-2 c κs =
-    let p = c .before .before .before .before .before .before .before .before .before .before .before .before .before .before .before in
+    let e = c .before in
+    let j = looked (e .before .before .before .before .before) .before .before in
+    let p = start j in
     let a = p .args in
-    let d = asked (c .before .before .before .before .before .before .before .before .before .before) in
-    (search needs, (in-limit (a .t .now) (p .pre .1) (d .0), in-limit (a .t .now) (p .pre .1) (host-here (a .t .now) (p .pre .1) (a .node) (a .s) (a .n) _ (found (c .before)))))
+    let d = asked j in
+    (search needs, (in-limit (a .t .now) (p .pre .1) (d .0), in-limit (a .t .now) (p .pre .1) (host-here (a .t .now) (p .pre .1) (a .node) (a .s) (a .n) _ (found e))))
+
+done-requires : tie.Need-done-requires
+done-requires c κs = search needs
 
 enum-known-found-2 : tie.Need-enum-known-found-2
 enum-known-found-2 c = search needs
+
+said-requires : tie.Need-said-requires
+said-requires c κs = search needs
 
 same-length : tie.Need-same-length
 same-length c = search needs
@@ -81,16 +101,18 @@ same-length c = search needs
 returns-2 : tie.Need-returns-2
 unfolding state-of
 returns-2 c =
-    let p = c .before .before .before .before .before .before .before .before .before .before .before .before .before .before .before .before .before .before in
+    let k = c .before .before .before in
+    let e = k .before .before in
+    let f = e .before .before .before .before .before in
+    let j = looked f .before .before in
+    let p = start j in
     let a = p .args in
     let t = a .t .now in
     let w = regular t (p .pre .1) in
-    let k = c .before .before .connect2 in
-    let f = c .before .before .before .before .before .before .before .before .before .connect in
-    let d = asked (c .before .before .before .before .before .before .before .before .before .before .before .before .before) in
-    send-at-told t (p .pre .1) (a .caller) (a .node) (a .s) (a .n) (c .before .before .before .before .before .before .before .before .before .before .before .before .before .before .before .asking-reason .ensures) (c .before .before .before .before .before .before .before .before .before .before .before .before .before .enum-told .given .1)
-    (Found (c .before .before .before .before .before .found .given .0 .0)) (found (c .before .before .before .before)) (k .last .0)
-    (k .ensures _ (f .ensures (here t) (base t (p .pre .1)) w) (regular-connect w (a .caller) (a .node) (d .0) (d .3)))
+    let d = asked j in
+    rw (c .done .ensures) (send-at-told t (p .pre .1) (a .caller) (a .node) (a .s) (a .n) (j .before .before .asking-reason .ensures) (j .enum-told .given .1)
+    (Found (e .before .found .given .0 .0)) (found e) (k .connect2 .last .0)
+    (k .connect2 .ensures _ (f .connect .ensures (here t) (base t (p .pre .1)) w) (regular-connect w (a .caller) (a .node) (d .0) (d .3))))
 
 same-length-2 : tie.Need-same-length-2
 same-length-2 c = search needs
@@ -98,28 +120,33 @@ same-length-2 c = search needs
 returns-3 : tie.Need-returns-3
 unfolding state-of
 returns-3 c =
-    let p = c .before .before .before .before .before .before .before .before .before .before .before .before .before .before in
+    let e = c .before .before in
+    let f = e .before .before .before .before in
+    let j = looked f .before .before in
+    let p = start j in
     let a = p .args in
     let t = a .t .now in
-    let f = c .before .before .before .before .before .connect in
-    send-at-told t (p .pre .1) (a .caller) (a .node) (a .s) (a .n) (c .before .before .before .before .before .before .before .before .before .before .before .asking-reason .ensures) (c .before .before .before .before .before .before .before .before .before .enum-told .given .1)
-    (Missing (c .before .found2 .given .0 .0)) (ap looked-up (sym (c .before .found2 .given .1)) ∙ c .before .before .before .before .before .before .before .look .ensures) (f .last .0)
-    (f .ensures (here t) (base t (p .pre .1)) (regular t (p .pre .1)))
+    rw (c .said .ensures) (send-at-told t (p .pre .1) (a .caller) (a .node) (a .s) (a .n) (j .before .before .asking-reason .ensures) (j .enum-told .given .1)
+    (Missing (e .found2 .given .0 .0)) (ap looked-up (sym (e .found2 .given .1)) ∙ looked f .look .ensures) (f .connect .last .0)
+    (f .connect .ensures (here t) (base t (p .pre .1)) (regular t (p .pre .1))))
 
 pub send-at-spec : {M : Type 1} → statement M
 send-at-spec =
     tie.close
     (tie.spec
-    slice-read-asking-reason
-    cast-asking-reason
+    slice-read-size
+    cast-size
     asking-reason-requires
     enum-told
+    refused-requires
     returns
     look-requires
     connect-requires
     enum-known-found
     connect-requires-2
+    done-requires
     enum-known-found-2
+    said-requires
     same-length
     returns-2
     same-length-2

@@ -17,15 +17,19 @@ use Rattle.inputs.proofs.Reasons.{not-done}
 use Rattle.reaching.proofs.send_name.Statement.{statement}
 use Rattle.reaching.proofs.send_name.Tie as tie
 
+-- the start of the step
+abbrev start : tie.After-enum-told → tie.Start
+start c = c .before .before .before .before .before
+
 -- the pid that is found
-found : (c : tie.After-known-told) → let a = c .before .before .before .before .before .before .before .before .before .before .args in looked-up (Found (c .before .p .given .0 .0)) ≡ ask (a .caller) (a .s) (a .n) (here (a .t .now))
+found : (c : tie.After-known-told) → let a = start (c .before .before .before .before .before) .args in looked-up (Found (c .before .p .given .0 .0)) ≡ ask (a .caller) (a .s) (a .n) (here (a .t .now))
 found c = ap looked-up (sym (c .before .p .given .1)) ∙ c .before .before .before .look .ensures
 
-slice-read-name-reason : tie.Need-slice-read-name-reason
-slice-read-name-reason c = search needs
+slice-read-size : tie.Need-slice-read-size
+slice-read-size c = search needs
 
-cast-name-reason : tie.Need-cast-name-reason
-cast-name-reason c = let p = c .before .before in omega (arith, nodes-few (p .args .t .now) (p .pre .1))
+cast-size : tie.Need-cast-size
+cast-size c = let p = c .before .before in omega (arith, nodes-few (p .args .t .now) (p .pre .1))
 
 name-reason-requires : tie.Need-name-reason-requires
 name-reason-requires c κs = search needs
@@ -33,13 +37,16 @@ name-reason-requires c κs = search needs
 enum-told : tie.Need-enum-told
 enum-told c = search needs
 
+refused-requires : tie.Need-refused-requires
+refused-requires c κs = search needs
+
 returns : tie.Need-returns
 unfolding state-of
 returns c =
-    let p = c .before .before .before .before in
+    let p = c .before .before .before .before .before in
     let a = p .args in
-    says-kept (a .t .now) (p .pre .1)
-    (refused (step-send-name 0 (a .caller) (here (a .t .now)) (a .s) (a .n)) (c .before .name-reason .ensures) (not-done (c .before .name-reason .result) (c .match .keys2)))
+    rw (c .refused .ensures) (says-kept (a .t .now) (p .pre .1)
+    (refused (step-send-name 0 (a .caller) (here (a .t .now)) (a .s) (a .n)) (c .before .before .name-reason .ensures) (not-done (c .before .before .name-reason .result) (c .before .match .keys2))))
 
 look-requires : tie.Need-look-requires
 look-requires c κs = search needs
@@ -50,14 +57,21 @@ enum-known-p c = search needs
 connect-requires : tie.Need-connect-requires
 unfolding state-of
 connect-requires c κs =
-    let p = c .before .before .before .before .before .before .before .before .before .before .before in
+    let j = c .before .before .before .before .before .before in
+    let p = start j in
     let a = p .args in
     let N = getD (a .t .now) 0 0 in
-    let d = group-done N (a .caller) (a .s) (name-done N (a .caller) (a .s) (a .n) (sym (c .before .before .before .before .before .before .before .before .name-reason .ensures) ∙ c .before .before .before .before .before .before .enum-told .given .1) .0) in
+    let d = group-done N (a .caller) (a .s) (name-done N (a .caller) (a .s) (a .n) (sym (j .before .before .name-reason .ensures) ∙ j .enum-told .given .1) .0) in
     (p .pre .0, (in-limit (a .t .now) (p .pre .1) (d .0), in-limit (a .t .now) (p .pre .1) (host-here (a .t .now) (p .pre .1) (a .caller) (a .s) (a .n) _ (found (c .before)))))
+
+done-requires : tie.Need-done-requires
+done-requires c κs = search needs
 
 enum-known-why : tie.Need-enum-known-why
 enum-known-why c = search needs
+
+said-requires : tie.Need-said-requires
+said-requires c κs = search needs
 
 same-length : tie.Need-same-length
 same-length c = search needs
@@ -65,13 +79,15 @@ same-length c = search needs
 returns-2 : tie.Need-returns-2
 unfolding state-of
 returns-2 c =
-    let p = c .before .before .before .before .before .before .before .before .before .before .before .before .before .before in
+    let k = c .before .before .before in
+    let e = k .before .before in
+    let j = e .before .before .before .before .before in
+    let p = start j in
     let a = p .args in
     let t = a .t .now in
-    let k = c .before .before .connect in
-    send-name-told t (p .pre .1) (a .caller) (a .s) (a .n) (c .before .before .before .before .before .before .before .before .before .before .before .name-reason .ensures) (c .before .before .before .before .before .before .before .before .before .enum-told .given .1)
-    (Found (c .before .before .before .before .before .p .given .0 .0)) (found (c .before .before .before .before)) (k .last .0)
-    (k .ensures (here t) (base t (p .pre .1)) (regular t (p .pre .1)))
+    rw (c .done .ensures) (send-name-told t (p .pre .1) (a .caller) (a .s) (a .n) (j .before .before .name-reason .ensures) (j .enum-told .given .1)
+    (Found (e .before .p .given .0 .0)) (found e) (k .connect .last .0)
+    (k .connect .ensures (here t) (base t (p .pre .1)) (regular t (p .pre .1))))
 
 same-length-2 : tie.Need-same-length-2
 same-length-2 c = search needs
@@ -79,25 +95,31 @@ same-length-2 c = search needs
 returns-3 : tie.Need-returns-3
 unfolding state-of
 returns-3 c =
-    let p = c .before .before .before .before .before .before .before .before .before .before in
+    let d = c .before .before in
+    let f = d .before .before in
+    let j = f .before .before in
+    let p = start j in
     let a = p .args in
     let t = a .t .now in
-    send-name-told t (p .pre .1) (a .caller) (a .s) (a .n) (c .before .before .before .before .before .before .before .name-reason .ensures) (c .before .before .before .before .before .enum-told .given .1)
-    (Missing (c .before .why .given .0 .0)) (ap looked-up (sym (c .before .why .given .1)) ∙ c .before .before .before .look .ensures) t (base t (p .pre .1))
+    rw (c .said .ensures) (send-name-told t (p .pre .1) (a .caller) (a .s) (a .n) (j .before .before .name-reason .ensures) (j .enum-told .given .1)
+    (Missing (d .why .given .0 .0)) (ap looked-up (sym (d .why .given .1)) ∙ f .look .ensures) t (base t (p .pre .1)))
 
 pub send-name-spec : {M : Type 1} → statement M
 send-name-spec =
     tie.close
     (tie.spec
-    slice-read-name-reason
-    cast-name-reason
+    slice-read-size
+    cast-size
     name-reason-requires
     enum-told
+    refused-requires
     returns
     look-requires
     enum-known-p
     connect-requires
+    done-requires
     enum-known-why
+    said-requires
     same-length
     returns-2
     same-length-2

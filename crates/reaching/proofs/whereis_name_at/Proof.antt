@@ -16,11 +16,15 @@ use Rattle.inputs.proofs.Reasons.{not-done}
 use Rattle.reaching.proofs.whereis_name_at.Statement.{statement}
 use Rattle.reaching.proofs.whereis_name_at.Tie as tie
 
-slice-read-asking-reason : tie.Need-slice-read-asking-reason
-slice-read-asking-reason c = search needs
+-- the start of the step
+abbrev start : tie.After-enum-told → tie.Start
+start c = c .before .before .before .before .before
 
-cast-asking-reason : tie.Need-cast-asking-reason
-cast-asking-reason c = let p = c .before .before in omega (arith, nodes-few (p .args .t .now) (p .pre .1))
+slice-read-size : tie.Need-slice-read-size
+slice-read-size c = search needs
+
+cast-size : tie.Need-cast-size
+cast-size c = let p = c .before .before in omega (arith, nodes-few (p .args .t .now) (p .pre .1))
 
 asking-reason-requires : tie.Need-asking-reason-requires
 asking-reason-requires c κs = search needs
@@ -28,13 +32,16 @@ asking-reason-requires c κs = search needs
 enum-told : tie.Need-enum-told
 enum-told c = search needs
 
+refused-requires : tie.Need-refused-requires
+refused-requires c κs = search needs
+
 returns : tie.Need-returns
 unfolding state-of
 returns c =
-    let p = c .before .before .before .before in
+    let p = c .before .before .before .before .before in
     let a = p .args in
-    says-kept (a .t .now) (p .pre .1)
-    (refused (step-whereis-at 0 (a .caller) (here (a .t .now)) (a .node) (a .s) (a .n)) (c .before .asking-reason .ensures) (not-done (c .before .asking-reason .result) (c .match .keys2)))
+    rw (c .refused .ensures) (says-kept (a .t .now) (p .pre .1)
+    (refused (step-whereis-at 0 (a .caller) (here (a .t .now)) (a .node) (a .s) (a .n)) (c .before .before .asking-reason .ensures) (not-done (c .before .before .asking-reason .result) (c .before .match .keys2))))
 
 look-requires : tie.Need-look-requires
 look-requires c κs = search needs
@@ -42,16 +49,23 @@ look-requires c κs = search needs
 connect-requires : tie.Need-connect-requires
 unfolding state-of
 connect-requires c κs =
-    let p = c .before .before .before .before .before .before .before .before in
+    let j = c .before .before .before in
+    let p = start j in
     let a = p .args in
-    let d = asking-done (getD (a .t .now) 0 0) (a .caller) (a .node) (a .s) (a .n) (sym (c .before .before .before .before .before .asking-reason .ensures) ∙ c .before .before .before .enum-told .given .1) in
+    let d = asking-done (getD (a .t .now) 0 0) (a .caller) (a .node) (a .s) (a .n) (sym (j .before .before .asking-reason .ensures) ∙ j .enum-told .given .1) in
     (p .pre .0, (in-limit (a .t .now) (p .pre .1) (d .0), in-limit (a .t .now) (p .pre .1) (d .3)))
 
 enum-known-seen : tie.Need-enum-known-seen
 enum-known-seen c = search needs
 
+done-requires : tie.Need-done-requires
+done-requires c κs = search needs
+
 enum-known-seen-2 : tie.Need-enum-known-seen-2
 enum-known-seen-2 c = search needs
+
+said-requires : tie.Need-said-requires
+said-requires c κs = search needs
 
 same-length : tie.Need-same-length
 same-length c = search needs
@@ -59,13 +73,16 @@ same-length c = search needs
 returns-2 : tie.Need-returns-2
 unfolding state-of
 returns-2 c =
-    let p = c .before .before .before .before .before .before .before .before .before .before .before .before .before .before in
+    let e = c .before .before in
+    let k = e .before .before .before .before in
+    let f = k .before .before in
+    let j = f .before .before in
+    let p = start j in
     let a = p .args in
     let t = a .t .now in
-    let k = c .before .before .before .before .before .connect in
-    whereis-told t (p .pre .1) (a .caller) (a .node) (a .s) (a .n) (c .before .before .before .before .before .before .before .before .before .before .before .asking-reason .ensures) (c .before .before .before .before .before .before .before .before .before .enum-told .given .1)
-    (Found (c .before .seen .given .0 .0)) (ap looked-up (sym (c .before .seen .given .1)) ∙ c .before .before .before .before .before .before .before .look .ensures) (k .last .0)
-    (k .ensures (here t) (base t (p .pre .1)) (regular t (p .pre .1)))
+    rw (c .done .ensures) (whereis-told t (p .pre .1) (a .caller) (a .node) (a .s) (a .n) (j .before .before .asking-reason .ensures) (j .enum-told .given .1)
+    (Found (e .seen .given .0 .0)) (ap looked-up (sym (e .seen .given .1)) ∙ f .look .ensures) (k .connect .last .0)
+    (k .connect .ensures (here t) (base t (p .pre .1)) (regular t (p .pre .1))))
 
 same-length-2 : tie.Need-same-length-2
 same-length-2 c = search needs
@@ -73,27 +90,33 @@ same-length-2 c = search needs
 returns-3 : tie.Need-returns-3
 unfolding state-of
 returns-3 c =
-    let p = c .before .before .before .before .before .before .before .before .before .before .before .before .before .before in
+    let e = c .before .before in
+    let k = e .before .before .before .before in
+    let f = k .before .before in
+    let j = f .before .before in
+    let p = start j in
     let a = p .args in
     let t = a .t .now in
-    let k = c .before .before .before .before .before .connect in
-    whereis-told t (p .pre .1) (a .caller) (a .node) (a .s) (a .n) (c .before .before .before .before .before .before .before .before .before .before .before .asking-reason .ensures) (c .before .before .before .before .before .before .before .before .before .enum-told .given .1)
-    (Missing (c .before .seen2 .given .0 .0)) (ap looked-up (sym (c .before .seen2 .given .1)) ∙ c .before .before .before .before .before .before .before .look .ensures) (k .last .0)
-    (k .ensures (here t) (base t (p .pre .1)) (regular t (p .pre .1)))
+    rw (c .said .ensures) (whereis-told t (p .pre .1) (a .caller) (a .node) (a .s) (a .n) (j .before .before .asking-reason .ensures) (j .enum-told .given .1)
+    (Missing (e .seen2 .given .0 .0)) (ap looked-up (sym (e .seen2 .given .1)) ∙ f .look .ensures) (k .connect .last .0)
+    (k .connect .ensures (here t) (base t (p .pre .1)) (regular t (p .pre .1))))
 
 pub whereis-name-at-spec : {M : Type 1} → statement M
 whereis-name-at-spec =
     tie.close
     (tie.spec
-    slice-read-asking-reason
-    cast-asking-reason
+    slice-read-size
+    cast-size
     asking-reason-requires
     enum-told
+    refused-requires
     returns
     look-requires
     connect-requires
     enum-known-seen
+    done-requires
     enum-known-seen-2
+    said-requires
     same-length
     returns-2
     same-length-2

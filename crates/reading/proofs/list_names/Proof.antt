@@ -38,32 +38,38 @@ list-names-requires c κs = search needs
 enum-known-words : tie.Need-enum-known-words
 enum-known-words c = search needs
 
+done-requires : tie.Need-done-requires
+done-requires c κs = search needs
+
 enum-told : tie.Need-enum-told
 enum-told c = search needs
+
+refused-requires : tie.Need-refused-requires
+refused-requires c κs = search needs
 
 same-length : tie.Need-same-length
 same-length c = search needs
 
 returns : tie.Need-returns
 returns c =
-    let q = c .before .before .before .before .before in
+    let q = c .before .before .before .before .before .before in
     let n = q .before .before .before in
     let a = n .before .before .before .args in
     λ st l w.
-    list-told l (a .at) w (bodies-at + names-per-group * a .at) (bodies-at + names-per-group * a .at + names-per-group) refl refl (a .s) (n .names-count .result) (n .names-count .ensures) (a .out .now)
-    (q .list-names .result) (q .list-names .last .1 .1 .1 .0) (q .list-names .ensures .0) (q .list-names .ensures .1) (c .before .words .given .1)
+    rw (c .done .ensures) (list-told l (a .at) w (bodies-at + names-per-group * a .at) (bodies-at + names-per-group * a .at + names-per-group) refl refl (a .s) (n .names-count .result) (n .names-count .ensures) (a .out .now)
+    (q .list-names .result) (q .list-names .last .1 .1 .1 .0) (q .list-names .ensures .0) (q .list-names .ensures .1) (c .before .before .words .given .1))
 
 same-length-2 : tie.Need-same-length-2
 same-length-2 c = search needs
 
 returns-2 : tie.Need-returns-2
 returns-2 c =
-    let q = c .before .before .before .before in
+    let q = c .before .before .before .before .before in
     let n = q .before .before .before in
     let a = n .before .before .before .args in
     λ st l w.
-    list-short l (a .at) w (bodies-at + names-per-group * a .at) (bodies-at + names-per-group * a .at + names-per-group) refl refl (a .s) (n .names-count .result) (n .names-count .ensures) (a .out .now)
-    (q .list-names .result) (q .list-names .last .1 .1 .1 .0) (q .list-names .ensures .0) (q .list-names .ensures .1) (c .enum-told .given .1)
+    rw (c .refused .ensures) (list-short l (a .at) w (bodies-at + names-per-group * a .at) (bodies-at + names-per-group * a .at + names-per-group) refl refl (a .s) (n .names-count .result) (n .names-count .ensures) (a .out .now)
+    (q .list-names .result) (q .list-names .last .1 .1 .1 .0) (q .list-names .ensures .0) (q .list-names .ensures .1) (c .before .enum-told .given .1))
 
 pub list-names-spec : {M : Type 1} → statement M
 list-names-spec =
@@ -79,7 +85,9 @@ list-names-spec =
     part-list-names-end
     list-names-requires
     enum-known-words
+    done-requires
     enum-told
+    refused-requires
     same-length
     returns
     same-length-2

@@ -13,12 +13,16 @@ use Rattle.inputs.proofs.Reasons.{not-done}
 use Rattle.reading.proofs.registered_names.Statement.{statement}
 use Rattle.reading.proofs.registered_names.Tie as tie
 
+-- the start of the step
+abbrev start : tie.After-enum-told → tie.Start
+start c = c .before .before .before .before .before .before
+
 -- the caller is a member of the s_group
-open-here : (c : tie.After-known-told) → let a = c .before .before .before .before .before .before .before .before .before .before .args in
+open-here : (c : tie.After-known-told) → let a = start (c .before .before .before .before) .args in
     Open (a .caller) (a .s) (c .before .at .given .0 .0) (here (a .t .now) .groups)
 open-here c =
     let f = c .before .before .before in
-    let p = f .before .before .before .before .before .before .before in
+    let p = start (f .before) in
     opened (p .args .t .now) (p .pre .1) (p .args .caller) (p .args .s) (f .place-for .result) (f .place-for .ensures) (c .before .at .given .1)
 
 shared-slice-read-size : tie.Need-shared-slice-read-size
@@ -33,12 +37,15 @@ group-reason-requires c κs = search needs
 enum-told : tie.Need-enum-told
 enum-told c = search needs
 
+refused-requires : tie.Need-refused-requires
+refused-requires c κs = search needs
+
 returns : tie.Need-returns
 unfolding state-of
 returns c =
-    let p = c .before .before .before .before .before in
+    let p = c .before .before .before .before .before .before in
     let t = p .args .t .now in
-    lists-refused t (p .pre .1) (p .args .out .now) (step-names (length (p .args .out .now)) (p .args .caller) (here t) (p .args .s)) (c .before .group-reason .ensures) (not-done (c .before .group-reason .result) (c .match .keys2))
+    rw (c .refused .ensures) (lists-refused t (p .pre .1) (p .args .out .now) (step-names (length (p .args .out .now)) (p .args .caller) (here t) (p .args .s)) (c .before .before .group-reason .ensures) (not-done (c .before .before .group-reason .result) (c .before .match .keys2)))
 
 place-for-requires : tie.Need-place-for-requires
 place-for-requires c κs = search needs
@@ -48,11 +55,15 @@ enum-known-at c = search needs
 
 list-names-requires : tie.Need-list-names-requires
 list-names-requires c κs =
-    let p = c .before .before .before .before .before .before .before .before .before .before .before in
-    (p .pre .0, open-below (p .args .t .now) (p .pre .1) (open-here (c .before)))
+    let k = c .before in
+    let p = start (k .before .before .before .before) in
+    (p .pre .0, open-below (p .args .t .now) (p .pre .1) (open-here k))
 
-enum-known-d : tie.Need-enum-known-d
-enum-known-d c = search needs
+enum-known-denial : tie.Need-enum-known-denial
+enum-known-denial c = search needs
+
+said-requires : tie.Need-said-requires
+said-requires c κs = search needs
 
 same-length : tie.Need-same-length
 same-length c = search needs
@@ -63,7 +74,7 @@ returns-2 c =
     let d = c .before .before in
     let k = d .before .before in
     let j = k .before .before .before .before in
-    let p = j .before .before .before .before .before .before in
+    let p = start j in
     let t = p .args .t .now in
     lists-told t (p .pre .1) (p .args .out .now) (step-names (length (p .args .out .now)) (p .args .caller) (here t) (p .args .s)) (j .before .before .group-reason .ensures) (j .enum-told .given .1) (open-here k) (d .list-names .last .1 .1 .1 .0)
     (d .list-names .ensures (here t) (base t (p .pre .1)) (standing (regular t (p .pre .1)) (open-here k .seat)))
@@ -71,12 +82,12 @@ returns-2 c =
 returns-3 : tie.Need-returns-3
 unfolding state-of
 returns-3 c =
-    let f = c .before .before .before in
+    let f = c .before .before .before .before in
     let j = f .before in
-    let p = j .before .before .before .before .before .before in
+    let p = start j in
     let t = p .args .t .now in
-    lists-denied t (p .pre .1) (p .args .out .now) (step-names (length (p .args .out .now)) (p .args .caller) (here t) (p .args .s)) (j .before .before .group-reason .ensures) (j .enum-told .given .1)
-    (f .place-for .result) (f .place-for .ensures) (c .before .d .given .1)
+    rw (c .said .ensures) (lists-denied t (p .pre .1) (p .args .out .now) (step-names (length (p .args .out .now)) (p .args .caller) (here t) (p .args .s)) (j .before .before .group-reason .ensures) (j .enum-told .given .1)
+    (f .place-for .result) (f .place-for .ensures) (c .before .before .denial .given .1))
 
 pub registered-names-spec : {M : Type 1} → statement M
 registered-names-spec =
@@ -86,11 +97,13 @@ registered-names-spec =
     cast-size
     group-reason-requires
     enum-told
+    refused-requires
     returns
     place-for-requires
     enum-known-at
     list-names-requires
-    enum-known-d
+    enum-known-denial
+    said-requires
     same-length
     returns-2
     returns-3)

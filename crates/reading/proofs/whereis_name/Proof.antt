@@ -41,12 +41,15 @@ name-reason-requires c κs = search needs
 enum-told : tie.Need-enum-told
 enum-told c = search needs
 
+refused-requires : tie.Need-refused-requires
+refused-requires c κs = search needs
+
 returns : tie.Need-returns
 unfolding state-of
 returns c =
-    let p = c .before .before .before .before in
-    answers (p .args .t .now) (p .pre .1)
-    (refused (step-whereis 0 (p .args .caller) (here (p .args .t .now)) (p .args .s) (p .args .n) .judging) (c .before .name-reason .ensures) (not-done (c .before .name-reason .result) (c .match .keys2)))
+    let p = c .before .before .before .before .before in
+    rw (c .refused .ensures) (answers (p .args .t .now) (p .pre .1)
+    (refused (step-whereis 0 (p .args .caller) (here (p .args .t .now)) (p .args .s) (p .args .n) .judging) (c .before .before .name-reason .ensures) (not-done (c .before .before .name-reason .result) (c .before .match .keys2))))
 
 look-requires : tie.Need-look-requires
 look-requires c κs = search needs
@@ -54,16 +57,24 @@ look-requires c κs = search needs
 enum-known-p : tie.Need-enum-known-p
 enum-known-p c = search needs
 
-enum-known-d : tie.Need-enum-known-d
-enum-known-d c = search needs
+done-requires : tie.Need-done-requires
+done-requires c κs = search needs
+
+enum-known-why : tie.Need-enum-known-why
+enum-known-why c = search needs
+
+said-requires : tie.Need-said-requires
+said-requires c κs = search needs
 
 returns-2 : tie.Need-returns-2
 unfolding state-of
-returns-2 c = told-here (c .before .before .before) _ (c .before .p .given .1)
+returns-2 c =
+    rw (c .done .ensures) (told-here (c .before .before .before .before) _ (c .before .before .p .given .1))
 
 returns-3 : tie.Need-returns-3
 unfolding state-of
-returns-3 c = told-here (c .before .before .before) _ (c .before .d .given .1)
+returns-3 c =
+    rw (c .said .ensures) (told-here (c .before .before .before .before) _ (c .before .before .why .given .1))
 
 pub whereis-name-spec : {M : Type 1} → statement M
 whereis-name-spec =
@@ -73,9 +84,12 @@ whereis-name-spec =
     cast-size
     name-reason-requires
     enum-told
+    refused-requires
     returns
     look-requires
     enum-known-p
-    enum-known-d
+    done-requires
+    enum-known-why
+    said-requires
     returns-2
     returns-3)

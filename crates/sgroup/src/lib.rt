@@ -1,7 +1,7 @@
 // The fifteen commands over a lent table.
 use answers::Answer;
 use answers::Reason;
-use answers::Value;
+use commands::Command;
 use layout::TABLE_WORDS;
 ghost use mathlib.Core.Path.{_≡_};
 ghost use lib.ListN.{length};
@@ -11,20 +11,26 @@ ghost use Rattle.semantics.specs.Call.{call, listed-over};
 ghost use Rattle.semantics.specs.Calls.{why};
 ghost use Rattle.answers.specs.declared.Value.the-variants.{Error};
 
-// The answer where the run is no sound table: its length is wrong, or it is unsound.
-fn unfit(table: &[u64]) -> Answer
+// The refusal of a run that is no sound table: its length is wrong, or it is unsound.
+fn no_table(table: &[u64]) -> Answer
     ensures { λ r. ⌜ r ≡ answer-of Error (why (now (table .entry))) ⌝ }
 {
     if table.len() == TABLE_WORDS {
-        return Answer {
-            value: Value::Error,
-            reason: Reason::Unsound,
-        };
+        return answers::refused(Reason::Unsound);
     }
-    Answer {
-        value: Value::Error,
-        reason: Reason::TableLength,
+    answers::refused(Reason::TableLength)
+}
+
+// What the caller's command answers on the table; a list goes to the front of `out`.
+pub fn call(table: &mut [u64], out: &mut [u64], caller: u32, command: Command) -> Answer
+    ensures { λ r. ⌜ r ≡ call (length (now (out .entry))) caller command (now (table .entry)) .answer ⌝ }
+    ensures { λ _. ⌜ now (table .exit) ≡ call (length (now (out .entry))) caller command (now (table .entry)) .table ⌝ }
+    ensures { λ _. ⌜ now (out .exit) ≡ listed-over (call (length (now (out .entry))) caller command (now (table .entry)) .list) (now (out .entry)) ⌝ }
+{
+    if table::is_sound(table) {
+        return step::step(table, out, caller, command);
     }
+    no_table(table)
 }
 
 // Registers the pid under the name in the s_group.
@@ -35,7 +41,7 @@ pub fn register_name(table: &mut [u64], caller: u32, s: u32, n: u32, p: u32) -> 
     if table::is_sound(table) {
         return naming::register_name(table, caller, s, n, p);
     }
-    unfit(table)
+    no_table(table)
 }
 
 // Registers the pid under the name in the s_group, in place of the one that the name had.
@@ -46,7 +52,7 @@ pub fn re_register_name(table: &mut [u64], caller: u32, s: u32, n: u32, p: u32) 
     if table::is_sound(table) {
         return naming::re_register_name(table, caller, s, n, p);
     }
-    unfit(table)
+    no_table(table)
 }
 
 // Takes the name out of the s_group's namespace.
@@ -57,7 +63,7 @@ pub fn unregister_name(table: &mut [u64], caller: u32, s: u32, n: u32) -> Answer
     if table::is_sound(table) {
         return naming::unregister_name(table, caller, s, n);
     }
-    unfit(table)
+    no_table(table)
 }
 
 // The names of the s_group, listed in the run.
@@ -68,7 +74,7 @@ pub fn registered_names(table: &[u64], caller: u32, s: u32, out: &mut [u64]) -> 
     if table::is_sound(table) {
         return reading::registered_names(table, caller, s, out);
     }
-    unfit(table)
+    no_table(table)
 }
 
 // What the caller finds under the name in the s_group.
@@ -78,7 +84,7 @@ pub fn whereis_name(table: &[u64], caller: u32, s: u32, n: u32) -> Answer
     if table::is_sound(table) {
         return reading::whereis_name(table, caller, s, n);
     }
-    unfit(table)
+    no_table(table)
 }
 
 // What the node finds under the name in the s_group; the caller connects with the node.
@@ -89,7 +95,7 @@ pub fn whereis_name_at(table: &mut [u64], caller: u32, node: u32, s: u32, n: u32
     if table::is_sound(table) {
         return reaching::whereis_name_at(table, caller, node, s, n);
     }
-    unfit(table)
+    no_table(table)
 }
 
 // The caller sends to the pid, and connects with its host.
@@ -100,7 +106,7 @@ pub fn send(table: &mut [u64], caller: u32, p: u32) -> Answer
     if table::is_sound(table) {
         return reaching::send(table, caller, p);
     }
-    unfit(table)
+    no_table(table)
 }
 
 // The caller sends to the pid that it finds under the name in the s_group.
@@ -111,7 +117,7 @@ pub fn send_name(table: &mut [u64], caller: u32, s: u32, n: u32) -> Answer
     if table::is_sound(table) {
         return reaching::send_name(table, caller, s, n);
     }
-    unfit(table)
+    no_table(table)
 }
 
 // The caller sends to the pid that the node finds under the name in the s_group.
@@ -122,7 +128,7 @@ pub fn send_at(table: &mut [u64], caller: u32, node: u32, s: u32, n: u32) -> Ans
     if table::is_sound(table) {
         return reaching::send_at(table, caller, node, s, n);
     }
-    unfit(table)
+    no_table(table)
 }
 
 // A new s_group of the set.
@@ -133,7 +139,7 @@ pub fn new_s_group(table: &mut [u64], caller: u32, s: u32, set: u64) -> Answer
     if table::is_sound(table) {
         return grouping::new_s_group(table, caller, s, set);
     }
-    unfit(table)
+    no_table(table)
 }
 
 // The set joins the s_group.
@@ -144,7 +150,7 @@ pub fn add_nodes(table: &mut [u64], caller: u32, s: u32, set: u64) -> Answer
     if table::is_sound(table) {
         return grouping::add_nodes(table, caller, s, set);
     }
-    unfit(table)
+    no_table(table)
 }
 
 // The members of the set leave the s_group.
@@ -155,7 +161,7 @@ pub fn remove_nodes(table: &mut [u64], caller: u32, s: u32, set: u64) -> Answer
     if table::is_sound(table) {
         return grouping::remove_nodes(table, caller, s, set);
     }
-    unfit(table)
+    no_table(table)
 }
 
 // The s_group goes, with its names.
@@ -166,7 +172,7 @@ pub fn delete_s_group(table: &mut [u64], caller: u32, s: u32) -> Answer
     if table::is_sound(table) {
         return grouping::delete_s_group(table, caller, s);
     }
-    unfit(table)
+    no_table(table)
 }
 
 // The nodes of the caller's groups, and how many they are.
@@ -176,7 +182,7 @@ pub fn own_nodes(table: &[u64], caller: u32) -> Answer
     if table::is_sound(table) {
         return own::own_nodes(table, caller);
     }
-    unfit(table)
+    no_table(table)
 }
 
 // The caller's s_groups, name and members of each, listed in the run.
@@ -187,5 +193,5 @@ pub fn own_s_groups(table: &[u64], caller: u32, out: &mut [u64]) -> Answer
     if table::is_sound(table) {
         return own::own_s_groups(table, caller, out);
     }
-    unfit(table)
+    no_table(table)
 }

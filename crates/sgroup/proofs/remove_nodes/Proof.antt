@@ -3,7 +3,7 @@
 use borrow.Author.Needs.{needs}
 use mathlib.Core.Path.{sym, _∙_}
 use Rattle.commands.specs.declared.Command.the-variants.{RemoveNodes}
-use Rattle.sgroup.specs.Unfit.{sound-run, says-unfit}
+use Rattle.sgroup.specs.NoTable.{sound-run, says-no-table}
 use Rattle.sgroup.proofs.remove_nodes.Statement.{statement}
 use Rattle.sgroup.proofs.remove_nodes.Tie as tie
 
@@ -19,8 +19,8 @@ same-length c = search needs
 returns : tie.Need-returns
 returns c = search needs
 
-unfit-requires : tie.Need-unfit-requires
-unfit-requires c κs = search needs
+no-table-requires : tie.Need-no-table-requires
+no-table-requires c κs = search needs
 
 same-length-2 : tie.Need-same-length-2
 same-length-2 c = search needs
@@ -28,7 +28,7 @@ same-length-2 c = search needs
 returns-2 : tie.Need-returns-2
 returns-2 c =
     let a = c .before .before .before .before .before .before .args in
-    says-unfit 0 (a .caller) (RemoveNodes (a .s) (a .set)) (a .table .now) (c .unfit .result) (sym (c .before .before .before .is-sound .ensures) ∙ c .before .before .if1 .left) (c .unfit .ensures)
+    says-no-table 0 (a .caller) (RemoveNodes (a .s) (a .set)) (a .table .now) (c .no-table .result) (sym (c .before .before .before .is-sound .ensures) ∙ c .before .before .if1 .left) (c .no-table .ensures)
 
 pub remove-nodes-spec : {M : Type 1} → statement M
 remove-nodes-spec =
@@ -38,6 +38,6 @@ remove-nodes-spec =
     remove-nodes-requires
     same-length
     returns
-    unfit-requires
+    no-table-requires
     same-length-2
     returns-2)

@@ -21,7 +21,7 @@ use Rattle.print.specs.Putting.{put-front, put-within}
 use Rattle.print.specs.Decimals.{answer-few}
 use Rattle.turns.specs.Turns.{list-room, request-turn}
 use Rattle.script.specs.Scripts.{script-limit, line-room, Line, ended, cut, overlong, lines-from, size-of, line-turn, printed, left, Stop, stop, runs}
-use Rattle.turns.specs.Lists.{call-fits, opening-bare}
+use Rattle.step.specs.Lists.{call-fits, opening-bare}
 use Rattle.script.specs.FirstLines.{first-of, line-at, lines-next, size-at, lines-over, line-first, asks, turn-first}
 
 -- ---- no line prints more than there is room for

@@ -12,8 +12,8 @@ use Rattle.answers.specs.declared.Answer.{Answer}
 use Rattle.forms.specs.Forms.{command-of}
 use Rattle.print.specs.Printed.{answer-line}
 use Rattle.turns.specs.Turns.{list-room, told}
-use Rattle.turns.specs.Lists.{count-of, lists, call-count, call-bare}
-use Rattle.turns.specs.Reads.{only-reads, call-roomless, call-reads}
+use Rattle.step.specs.Lists.{count-of, lists, call-count, call-bare}
+use Rattle.step.specs.Reads.{only-reads, call-roomless, call-reads}
 
 pub record After : Type 0 where
   pub answer : Answer

@@ -3,7 +3,7 @@ ghost use mathlib.Core.Path.{_≡_};
 ghost use lib.ListN.{length};
 ghost use Rattle.print.specs.Sheets.{sheet, put};
 ghost use Rattle.turns.specs.Turns.{list-room, request-turn};
-ghost use Rattle.turns.specs.Lists.{count-of};
+ghost use Rattle.step.specs.Lists.{count-of};
 ghost use Rattle.turns.specs.Acts.{after, acts};
 use answers::Answer;
 use answers::Value;

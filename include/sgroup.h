@@ -3,13 +3,19 @@
  * Link with libsgroup_c.a (`tools/native-lib sgroup_c` builds it into target/native/).
  *
  * A run of words is a pointer and a length in words. A pointer points to that many words, is aligned for uint64_t and not null, even where the length is
- * 0; the runs of one call don't overlap, and nobody else uses them during the call. Nothing else is asked of a caller: each function is proved to
- * end with the answer of its definition for every table, number and length, and to write what the definition says and no other word.
+ * 0; the runs of one call don't overlap; during the call nobody else writes to a `const` run of it, and nobody else reads or writes the others. Nothing else
+ * is asked of a caller: each function is proved to end with the answer of its definition for every table, number and length, and to write what the
+ * definition says and no other word.
+ *
+ * Threads: the library keeps nothing but what is in the runs. The five functions that take the table as `const` (sgroup_is_sound, sgroup_registered_names,
+ * sgroup_whereis_name, sgroup_own_nodes, sgroup_own_s_groups) write nothing to it, so that any number of threads may call them on one table at the same
+ * time, each with an `answer` and an `out` of its own, as long as nobody writes to the table meanwhile. Every other function needs the table to itself.
  *
  * In a set of nodes the bit i is node i. A pid's host is the whole part of pid / 67108864.
  *
- * Each function that takes `answer` writes four words there: kind, first number, second number, reason; numbers that a kind doesn't have are 0. It
- * returns the reason. Where `answer` has fewer than four words nothing is called, nothing is written, and SGROUP_NO_ROOM is returned. */
+ * The answer is four words, which each function that takes `answer` writes there: kind, first number, second number, reason; numbers that a kind doesn't
+ * have are 0. It returns the reason. Where `answer` has fewer than four words nothing is called, nothing is written, and SGROUP_NO_ROOM is returned. The
+ * words of a list go to a run of their own, the list run `out`. */
 #ifndef SGROUP_H
 #define SGROUP_H
 
@@ -38,7 +44,7 @@ enum sgroup_kind {
     SGROUP_PID = 6,           /* first: the pid */
     SGROUP_GROUP = 7,         /* first: the s_group's name; second: the set that was given */
     SGROUP_NODES = 8,         /* first: a set of nodes; second: how many they are */
-    SGROUP_LIST = 9           /* first: how many words the list has in `out` */
+    SGROUP_LIST = 9           /* first: how many words the list has in the list run */
 };
 
 /* the reasons: the fourth word of an answer */
@@ -60,7 +66,7 @@ enum sgroup_reason {
     SGROUP_CALLER_OUTSIDE = 14,   /* new_s_group: the caller isn't in the set */
     SGROUP_GROUP_TAKEN = 15,      /* new_s_group: name in use */
     SGROUP_GROUPS_FULL = 16,      /* new_s_group: 32 s_groups exist */
-    SGROUP_LIST_SHORT = 17        /* the run `out` is shorter than the list */
+    SGROUP_LIST_SHORT = 17        /* the list run is shorter than the list */
 };
 
 /* Whether the run is a sound table. Writes nothing. */
@@ -82,8 +88,8 @@ uint32_t sgroup_re_register_name(uint64_t *table, size_t table_len, uint32_t cal
 uint32_t sgroup_unregister_name(uint64_t *table, size_t table_len, uint32_t caller, uint32_t s, uint32_t n, uint64_t *answer,
                                 size_t answer_len);
 
-/* The names in s, ascending, to the run `out`, each as s * 2^32 + name. LIST; only the list's words are written. Reasons 8 and 9: the empty list.
- * Reason 17: ERROR, nothing is written to `out`. */
+/* The names in s, ascending, to the list run, each as s * 2^32 + name. LIST; only the list's words are written. Reasons 8 and 9: the empty list.
+ * Reason 17: ERROR, nothing is written to the list run. */
 uint32_t sgroup_registered_names(const uint64_t *table, size_t table_len, uint32_t caller, uint32_t s, uint64_t *out, size_t out_len,
                                  uint64_t *answer, size_t answer_len);
 
@@ -124,8 +130,8 @@ uint32_t sgroup_delete_s_group(uint64_t *table, size_t table_len, uint32_t calle
 /* The nodes of the caller's groups and how many they are. NODES. */
 uint32_t sgroup_own_nodes(const uint64_t *table, size_t table_len, uint32_t caller, uint64_t *answer, size_t answer_len);
 
-/* The caller's s_groups by name to the run `out`, two words each: name, members. LIST; only the list's words are written. Reason 17: ERROR,
- * nothing is written to `out`. */
+/* The caller's s_groups by name to the list run, two words each: name, members. LIST; only the list's words are written. Reason 17: ERROR,
+ * nothing is written to the list run. */
 uint32_t sgroup_own_s_groups(const uint64_t *table, size_t table_len, uint32_t caller, uint64_t *out, size_t out_len, uint64_t *answer,
                              size_t answer_len);
 

@@ -1,6 +1,7 @@
 #!/usr/bin/env bash
-# Each must-fail edit of the last `rt ci` was refused because a fact fails. Where the first error of its log says that a need cannot be
-# named, the edit only made the proof unfit for the code, and shows nothing. Each edit says in its first line what it rules out.
+# Each must-fail edit of the last `rt ci` was refused because a fact fails. Where the first error of its log says that a need or a name is not there, or stands
+# in an invariant, a measure, a contract or the joining of the needs, which state things and prove none, the edit only made the proof unfit for the code
+# and shows nothing. Each edit says in its first line what it rules out.
 set -uo pipefail
 cd "$(dirname "${BASH_SOURCE[0]}")/.."
 bad=0
@@ -19,9 +20,12 @@ for edit in crates/*/must-fail/*.edit; do
         continue
     fi
     first=$(grep -m 1 -e 'error' -e 'it is not proved' "$log")
-    case $first in
-        '') echo "$edit: its log names no fact"; bad=1 ;;
-        *'that can be named from here'*) echo "$edit: refused for its shape: $first"; bad=1 ;;
+    [[ $first =~ error:\ \`([^\`]*)\` ]] && at=${BASH_REMATCH[1]} || at=
+    case $at:$first in
+        :) echo "$edit: its log names no fact"; bad=1 ;;
+        Inv-* | μ-* | ensures-* | requires-* | *-spec:* | *'that can be named from here'* | *'is not in scope'*)
+            echo "$edit: refused for its shape: $first"
+            bad=1 ;;
     esac
 done
 exit $bad

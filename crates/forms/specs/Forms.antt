@@ -1,12 +1,15 @@
 -- The fifteen commands as a script writes them, and the number of each: its place in this list, from 1. Assumes nothing.
 use mathlib.Core.Bool.{Bool, true, false, _&&_, cond}
 use mathlib.Core.List.{List, [], _∷_}
+use mathlib.Core.Option.{Option, none, some}
 use Prim.Native.Nat.{ℕ, suc}
 use lib.Dec.{eqb}
 use Rattle.commands.specs.declared.Command.{Command}
 use Rattle.commands.specs.declared.Command.the-variants.{RegisterName, ReRegisterName, UnregisterName, RegisteredNames, WhereisName, WhereisNameAt, Send, SendName, SendAt, NewSGroup, AddNodes, RemoveNodes, DeleteSGroup, OwnNodes, OwnSGroups}
 use Rattle.semantics.specs.Test.{same}
 use Rattle.text.specs.Text.{bytes}
+use Rattle.forms.specs.declared.Formed.{Formed}
+use Rattle.forms.specs.declared.Formed.the-variants.{Is, Nothing}
 
 -- a command word with a number of arguments; whether the second is a set of nodes, of 64 bits; the command that it is: its arguments of 32 bits
 -- are a, b and c in their order, and set is the set of nodes
@@ -23,10 +26,6 @@ narrow-form w n f = record { word = w; arguments = n; takes-set = false; command
 -- a form that takes an s_group and a set of nodes
 abbrev pub set-form : List ℕ → (ℕ → ℕ → Command) → Form
 set-form w f = record { word = w; arguments = 2; takes-set = true; command = λ a b c set. f a set }
-
--- own_s_groups, the last of them
-abbrev pub last-form : Form
-last-form = narrow-form (bytes "own_s_groups") 0 (λ a b c. OwnSGroups)
 
 -- the fifteen commands in 01's order
 unfoldable pub forms : List Form
@@ -45,7 +44,7 @@ forms =
     ∷ set-form (bytes "remove_nodes") (λ s set. RemoveNodes s set)
     ∷ narrow-form (bytes "delete_s_group") 1 (λ s b c. DeleteSGroup s)
     ∷ narrow-form (bytes "own_nodes") 0 (λ a b c. OwnNodes)
-    ∷ last-form
+    ∷ narrow-form (bytes "own_s_groups") 0 (λ a b c. OwnSGroups)
     ∷ []
 
 -- the number of the form with this word and so many arguments, counted from k, or 0 where there is none
@@ -57,18 +56,28 @@ number-from k w n (f ∷ fs) = cond (same w (f .word) && eqb n (f .arguments)) k
 unfoldable pub number-of : List ℕ → ℕ → ℕ
 number-of w n = number-from 1 w n forms
 
--- the form of a number, counted from k; no line has the number of none, which counts as the last
-unfoldable pub form-from : ℕ → ℕ → List Form → Form
-form-from k number [] = last-form
-form-from k number (f ∷ fs) = cond (eqb number k) f (form-from (suc k) number fs)
+-- the form of a number, counted from k, where there is one
+unfoldable pub form-from : ℕ → ℕ → List Form → Option Form
+form-from k number [] = none
+form-from k number (f ∷ fs) = cond (eqb number k) (some f) (form-from (suc k) number fs)
 
-unfoldable pub form-of : ℕ → Form
+unfoldable pub form-of : ℕ → Option Form
 form-of number = form-from 1 number forms
 
--- the command of a number with its arguments
-unfoldable pub command-of : (number a b c set : ℕ) → Command
-command-of number = form-of number .command
+-- a form's command with its arguments
+abbrev pub filled : Option Form → (a b c set : ℕ) → Formed
+filled none a b c set = Nothing
+filled (some f) a b c set = Is (f .command a b c set)
 
--- whether the command of a number takes a set of nodes
+-- the command of a number with its arguments
+unfoldable pub command-of : (number a b c set : ℕ) → Formed
+command-of number = filled (form-of number)
+
+-- whether a form takes a set of nodes
+abbrev pub with-set : Option Form → Bool
+with-set none = false
+with-set (some f) = f .takes-set
+
+-- whether the command of a number does
 unfoldable pub takes-set : ℕ → Bool
-takes-set number = form-of number .takes-set
+takes-set number = with-set (form-of number)

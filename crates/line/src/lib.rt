@@ -2,7 +2,9 @@
 ghost use mathlib.Core.Path.{_≡_};
 ghost use lib.ListN.{length};
 ghost use Rattle.text.specs.Text.{fields};
-ghost use Rattle.line.specs.Requests.{number-in, open-with, open-line, command-with, command-by, numbered-line, command-line, request-of};
+ghost use Rattle.line.specs.Requests.{number-in, open-with, open-line, formed-line, command-with, command-by, numbered-line, command-line, request-of};
+use commands::Command;
+use forms::Formed;
 use text::Half;
 use text::Number;
 
@@ -10,16 +12,10 @@ use text::Number;
 pub enum Request {
     // a fresh table: how many nodes, and the set of hidden ones
     Open(u32, u64),
-    // a command's number, its caller, its arguments of 32 bits and its set of nodes; what it does not take is 0
-    Command {
-        number: u32,
-        caller: u32,
-        a: u32,
-        b: u32,
-        c: u32,
-        set: u64,
-    },
-    Unfit,
+    // a command of a caller
+    Command { caller: u32, command: Command },
+    // any other line
+    BadLine,
 }
 
 // A line holds at most this many bytes before its newline.
@@ -41,10 +37,10 @@ fn open_with(n: Half, hidden: Number) -> Request
     ensures { λ r. ⌜ r ≡ open-with n hidden ⌝ }
 {
     let Half::Is(size) = n else {
-        return Request::Unfit;
+        return Request::BadLine;
     };
     let Number::Is(set) = hidden else {
-        return Request::Unfit;
+        return Request::BadLine;
     };
     Request::Open(size, set)
 }
@@ -55,43 +51,49 @@ fn open_line(s: &[u8], count: usize) -> Request
     ensures { λ r. ⌜ r ≡ open-line (fields (now (s .entry))) ⌝ }
 {
     if count != 3 {
-        return Request::Unfit;
+        return Request::BadLine;
     }
     let n = text::narrow(text::numeral(text::field(s, 1)));
     let hidden = text::numeral(text::field(s, 2));
     open_with(n, hidden)
 }
 
-// A command, where its caller and its arguments are numbers of their widths.
+// A command of a caller, where the form is one.
+fn formed_line(caller: u32, formed: Formed) -> Request
+    ensures { λ r. ⌜ r ≡ formed-line caller formed ⌝ }
+{
+    match formed {
+        Formed::Is(command) => Request::Command {
+            caller: caller,
+            command: command,
+        },
+        Formed::Nothing => Request::BadLine,
+    }
+}
+
+// The command of a number, where its caller and its arguments are numbers of their widths.
 fn command_with(number: u32, caller: Half, a: Half, b: Half, c: Half, set: Number) -> Request
     ensures { λ r. ⌜ r ≡ command-with number caller a b c set ⌝ }
 {
     let Half::Is(i) = caller else {
-        return Request::Unfit;
+        return Request::BadLine;
     };
     let Half::Is(x) = a else {
-        return Request::Unfit;
+        return Request::BadLine;
     };
     let Half::Is(y) = b else {
-        return Request::Unfit;
+        return Request::BadLine;
     };
     let Half::Is(z) = c else {
-        return Request::Unfit;
+        return Request::BadLine;
     };
     let Number::Is(m) = set else {
-        return Request::Unfit;
+        return Request::BadLine;
     };
-    Request::Command {
-        number: number,
-        caller: i,
-        a: x,
-        b: y,
-        c: z,
-        set: m,
-    }
+    formed_line(i, forms::command_of(number, x, y, z, m))
 }
 
-// A command with its caller and three arguments as they stand, and whether the second is a set of nodes.
+// The command of a number with its caller and three arguments as they stand, and whether the second is a set of nodes.
 fn command_by(
     takes_set: bool,
     number: u32,
@@ -117,9 +119,6 @@ fn numbered_line(number: u32, s: &[u8], count: usize) -> Request
     requires { ⌜ count ≡ length (fields (now s)) ⌝ }
     ensures { λ r. ⌜ r ≡ numbered-line number (fields (now (s .entry))) ⌝ }
 {
-    if number == 0 {
-        return Request::Unfit;
-    }
     let caller = number_in(s, count, 0);
     let a = number_in(s, count, 2);
     let b = number_in(s, count, 3);
@@ -133,7 +132,7 @@ fn command_line(s: &[u8], count: usize) -> Request
     ensures { λ r. ⌜ r ≡ command-line (fields (now (s .entry))) ⌝ }
 {
     if count < 2 {
-        return Request::Unfit;
+        return Request::BadLine;
     }
     let number = forms::number(text::field(s, 1), count - 2);
     numbered_line(number, s, count)
@@ -144,7 +143,7 @@ pub fn request_of(s: &[u8]) -> Request
     ensures { λ r. ⌜ r ≡ request-of (now (s .entry)) ⌝ }
 {
     if LINE_LIMIT < s.len() {
-        return Request::Unfit;
+        return Request::BadLine;
     }
     let count = text::count(s);
     if check::same(text::field(s, 0), b"open") {

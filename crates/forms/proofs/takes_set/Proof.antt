@@ -1,17 +1,18 @@
--- `words::takes_set` meets its contract: the form of the number computes, or is one that takes none.
+-- `forms::takes_set` meets its contract: the form of the number computes, or there is none that takes a set.
 -- Assumes nothing.
 use mathlib.Core.Path.{_≡_, refl}
 use mathlib.Core.Logic.{⊎-elim}
+use mathlib.Core.Option.{Option}
 use mathlib.Core.Bool.{Bool, true, false, cond}
 use Prim.Native.Nat.{ℕ, _≤_}
 use native.Mathlib.Omega.{arith}
 use borrow.Author.Tests.{ne-eqb}
 use Rattle.nodes.specs.Bools.{by-eq}
-use Rattle.forms.specs.Forms.{Form, forms, form-from, form-of, takes-set}
+use Rattle.forms.specs.Forms.{Form, forms, form-from, form-of, with-set, takes-set}
 use Rattle.forms.proofs.takes_set.Statement.{statement}
 use Rattle.forms.proofs.takes_set.Tie as tie
 
-of-either : (t : Bool) (f g : Form) → (cond t f g) .takes-set ≡ cond t (f .takes-set) (g .takes-set)
+of-either : (t : Bool) (f g : Option Form) → with-set (cond t f g) ≡ cond t (with-set f) (with-set g)
 of-either true f g = refl
 of-either false f g = refl
 

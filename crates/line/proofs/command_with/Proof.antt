@@ -1,6 +1,8 @@
 -- `line::command_with` meets its contract: by cases on the five numbers.
 -- Assumes nothing.
 use borrow.Author.Needs.{needs}
+use mathlib.Core.Path.{ap, _∙_}
+use Rattle.line.specs.Requests.{formed-line}
 use Rattle.line.proofs.command_with.Statement.{statement}
 use Rattle.line.proofs.command_with.Tie as tie
 
@@ -11,7 +13,7 @@ enum-told : tie.Need-enum-told
 enum-told c = search needs
 
 returns : tie.Need-returns
-returns c = search needs
+returns c = rw (c .enum-told .given .1)
 
 enum-known-a : tie.Need-enum-known-a
 enum-known-a c = search needs
@@ -20,7 +22,7 @@ enum-told-2 : tie.Need-enum-told-2
 enum-told-2 c = search needs
 
 returns-2 : tie.Need-returns-2
-returns-2 c = search needs
+returns-2 c = rw (c .before .before .before .caller .given .1, c .enum-told2 .given .1)
 
 enum-known-b : tie.Need-enum-known-b
 enum-known-b c = search needs
@@ -49,8 +51,16 @@ enum-told-5 c = search needs
 returns-5 : tie.Need-returns-5
 returns-5 c = rw (c .before .before .before .before .before .before .before .before .before .before .before .before .caller .given .1, c .before .before .before .before .before .before .before .before .before .a .given .1, c .before .before .before .before .before .before .b .given .1, c .before .before .before .c .given .1, c .enum-told5 .given .1)
 
+command-of-requires : tie.Need-command-of-requires
+command-of-requires c κs = search needs
+
+formed-line-requires : tie.Need-formed-line-requires
+formed-line-requires c κs = search needs
+
 returns-6 : tie.Need-returns-6
-returns-6 c = rw (c .before .before .before .before .before .before .before .before .before .before .before .before .before .caller .given .1, c .before .before .before .before .before .before .before .before .before .before .a .given .1, c .before .before .before .before .before .before .before .b .given .1, c .before .before .before .before .c .given .1, c .before .set .given .1)
+returns-6 c =
+    rw (c .before .before .before .before .before .before .before .before .before .before .before .before .before .before .before .caller .given .1, c .before .before .before .before .before .before .before .before .before .before .before .before .a .given .1, c .before .before .before .before .before .before .before .before .before .b .given .1, c .before .before .before .before .before .before .c .given .1, c .before .before .before .set .given .1)
+    (c .formed-line .ensures ∙ ap (formed-line _) (c .before .command-of .ensures))
 
 pub command-with-spec : {M : Type 1} → statement M
 command-with-spec =
@@ -71,4 +81,6 @@ command-with-spec =
     enum-known-set
     enum-told-5
     returns-5
+    command-of-requires
+    formed-line-requires
     returns-6)

@@ -1,14 +1,9 @@
--- `line::numbered_line` meets its contract: by the number, and by what is read of the fields.
+-- `line::numbered_line` meets its contract: by what is read of the fields.
 -- Assumes nothing.
 use borrow.Author.Needs.{needs}
-use borrow.Author.Tests.{eq-eqb, ne-eqb}
 use Rattle.line.specs.Requests.{numbered-line}
 use Rattle.line.proofs.numbered_line.Statement.{statement}
 use Rattle.line.proofs.numbered_line.Tie as tie
-
-returns : tie.Need-returns
-unfolding numbered-line
-returns c = rw (eq-eqb _ _ (c .if1 .taken))
 
 number-in-requires : tie.Need-number-in-requires
 number-in-requires c κs = search needs
@@ -28,19 +23,18 @@ takes-set-requires c κs = search needs
 command-by-requires : tie.Need-command-by-requires
 command-by-requires c κs = search needs
 
-returns-2 : tie.Need-returns-2
+returns : tie.Need-returns
 unfolding numbered-line
-returns-2 c = rw (ne-eqb _ _ (c .before .before .before .before .before .before .if1 .left)) (cc)
+returns c = cc
 
 pub numbered-line-spec : {M : Type 1} → statement M
 numbered-line-spec =
     tie.close
     (tie.spec
-    returns
     number-in-requires
     number-in-requires-2
     number-in-requires-3
     number-in-requires-4
     takes-set-requires
     command-by-requires
-    returns-2)
+    returns)

@@ -6,7 +6,7 @@ use mathlib.Core.Bool.{true}
 use borrow.Author.Tests.{le-leb, lt-leb}
 use Rattle.semantics.specs.Test.{same}
 use Rattle.text.specs.Text.{bytes, fields}
-use Rattle.forms.specs.Keys.{differs}
+use Rattle.forms.specs.Words.{differs}
 use Rattle.text.specs.Text.{field}
 use Rattle.line.specs.Requests.{request-in, request-of}
 use Rattle.line.proofs.request_of.Statement.{statement}

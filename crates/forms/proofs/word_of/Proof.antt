@@ -1,10 +1,21 @@
--- `words::word` meets its contract: where a comparison holds, s is that word and its place computes; past the last, s is none of them.
+-- `forms::word_of` meets its contract: where a comparison holds, s is that word; past the last, s is none of them.
 -- Assumes nothing.
 use borrow.Author.Needs.{needs}
-use mathlib.Core.Path.{sym, ap}
-use Rattle.forms.specs.Keys.{words, word-from, word-place, differs, None, none-place}
-use Rattle.forms.proofs.word.Statement.{statement}
-use Rattle.forms.proofs.word.Tie as tie
+use mathlib.Core.Path.{_≡_, ap}
+use mathlib.Core.Bool.{false}
+use mathlib.Core.List.{List}
+use Prim.Native.Nat.{ℕ}
+use Rattle.forms.specs.Forms.{forms, number-from, number-of}
+use Rattle.semantics.specs.Test.{same}
+use Rattle.forms.specs.Words.{spelt, differs}
+use Rattle.forms.specs.declared.Word.the-variants.{RegisterName, ReRegisterName, UnregisterName, RegisteredNames, WhereisName, Send, NewSGroup, AddNodes, RemoveNodes, DeleteSGroup, OwnNodes, OwnSGroups, Other}
+use Rattle.forms.proofs.word_of.Statement.{statement}
+use Rattle.forms.proofs.word_of.Tie as tie
+
+-- bytes that are none of the words have no number
+wordless : (s : List ℕ) (n : ℕ) → same s (spelt RegisterName) ≡ false → same s (spelt ReRegisterName) ≡ false → same s (spelt UnregisterName) ≡ false → same s (spelt RegisteredNames) ≡ false → same s (spelt WhereisName) ≡ false → same s (spelt Send) ≡ false → same s (spelt NewSGroup) ≡ false → same s (spelt AddNodes) ≡ false → same s (spelt RemoveNodes) ≡ false → same s (spelt DeleteSGroup) ≡ false → same s (spelt OwnNodes) ≡ false → same s (spelt OwnSGroups) ≡ false → number-of s n ≡ number-of (spelt Other) n
+unfolding number-of number-from forms
+wordless s n e1 e2 e3 e4 e5 e6 e7 e8 e9 e10 e11 e12 = simp (e1, e2, e3, e4, e5, e6, e7, e8, e9, e10, e11, e12)
 
 slice-aggregate-same : tie.Need-slice-aggregate-same
 slice-aggregate-same c = search needs
@@ -79,55 +90,42 @@ same-requires-12 : tie.Need-same-requires-12
 same-requires-12 c κs = search needs
 
 returns : tie.Need-returns
-unfolding word-place word-from words
-returns c = sym (ap word-place (c .before .same .ensures .0 (c .if1 .taken)))
+returns c = λ n. ap (λ (s : List ℕ). number-of s n) (c .before .same .ensures .0 (c .if1 .taken))
 
 returns-2 : tie.Need-returns-2
-unfolding word-place word-from words
-returns-2 c = sym (ap word-place (c .before .same2 .ensures .0 (c .if2 .taken)))
+returns-2 c = λ n. ap (λ (s : List ℕ). number-of s n) (c .before .same2 .ensures .0 (c .if2 .taken))
 
 returns-3 : tie.Need-returns-3
-unfolding word-place word-from words
-returns-3 c = sym (ap word-place (c .before .same3 .ensures .0 (c .if3 .taken)))
+returns-3 c = λ n. ap (λ (s : List ℕ). number-of s n) (c .before .same3 .ensures .0 (c .if3 .taken))
 
 returns-4 : tie.Need-returns-4
-unfolding word-place word-from words
-returns-4 c = sym (ap word-place (c .before .same4 .ensures .0 (c .if4 .taken)))
+returns-4 c = λ n. ap (λ (s : List ℕ). number-of s n) (c .before .same4 .ensures .0 (c .if4 .taken))
 
 returns-5 : tie.Need-returns-5
-unfolding word-place word-from words
-returns-5 c = sym (ap word-place (c .before .same5 .ensures .0 (c .if5 .taken)))
+returns-5 c = λ n. ap (λ (s : List ℕ). number-of s n) (c .before .same5 .ensures .0 (c .if5 .taken))
 
 returns-6 : tie.Need-returns-6
-unfolding word-place word-from words
-returns-6 c = sym (ap word-place (c .before .same6 .ensures .0 (c .if6 .taken)))
+returns-6 c = λ n. ap (λ (s : List ℕ). number-of s n) (c .before .same6 .ensures .0 (c .if6 .taken))
 
 returns-7 : tie.Need-returns-7
-unfolding word-place word-from words
-returns-7 c = sym (ap word-place (c .before .same7 .ensures .0 (c .if7 .taken)))
+returns-7 c = λ n. ap (λ (s : List ℕ). number-of s n) (c .before .same7 .ensures .0 (c .if7 .taken))
 
 returns-8 : tie.Need-returns-8
-unfolding word-place word-from words
-returns-8 c = sym (ap word-place (c .before .same8 .ensures .0 (c .if8 .taken)))
+returns-8 c = λ n. ap (λ (s : List ℕ). number-of s n) (c .before .same8 .ensures .0 (c .if8 .taken))
 
 returns-9 : tie.Need-returns-9
-unfolding word-place word-from words
-returns-9 c = sym (ap word-place (c .before .same9 .ensures .0 (c .if9 .taken)))
+returns-9 c = λ n. ap (λ (s : List ℕ). number-of s n) (c .before .same9 .ensures .0 (c .if9 .taken))
 
 returns-10 : tie.Need-returns-10
-unfolding word-place word-from words
-returns-10 c = sym (ap word-place (c .before .same10 .ensures .0 (c .if10 .taken)))
+returns-10 c = λ n. ap (λ (s : List ℕ). number-of s n) (c .before .same10 .ensures .0 (c .if10 .taken))
 
 returns-11 : tie.Need-returns-11
-unfolding word-place word-from words
-returns-11 c = sym (ap word-place (c .before .same11 .ensures .0 (c .if11 .taken)))
+returns-11 c = λ n. ap (λ (s : List ℕ). number-of s n) (c .before .same11 .ensures .0 (c .if11 .taken))
 
 returns-12 : tie.Need-returns-12
-unfolding word-place word-from words
-returns-12 c = sym (ap word-place (c .before .same12 .ensures .0 (c .if12 .taken)))
+returns-12 c = λ n. ap (λ (s : List ℕ). number-of s n) (c .before .same12 .ensures .0 (c .if12 .taken))
 
 returns-13 : tie.Need-returns-13
-unfolding word-place words None
 returns-13 c =
     let c12 = c in
     let c11 = c12 .before .before .before in
@@ -141,46 +139,23 @@ returns-13 c =
     let c3 = c4 .before .before .before in
     let c2 = c3 .before .before .before in
     let c1 = c2 .before .before .before in
-    none-place 1 _ _ (
-      differs _ _ _ (c1 .if1 .left) (c1 .before .same .ensures .1),
-      (
-        differs _ _ _ (c2 .if2 .left) (c2 .before .same2 .ensures .1),
-        (
-          differs _ _ _ (c3 .if3 .left) (c3 .before .same3 .ensures .1),
-          (
-            differs _ _ _ (c4 .if4 .left) (c4 .before .same4 .ensures .1),
-            (
-              differs _ _ _ (c5 .if5 .left) (c5 .before .same5 .ensures .1),
-              (
-                differs _ _ _ (c6 .if6 .left) (c6 .before .same6 .ensures .1),
-                (
-                  differs _ _ _ (c7 .if7 .left) (c7 .before .same7 .ensures .1),
-                  (
-                    differs _ _ _ (c8 .if8 .left) (c8 .before .same8 .ensures .1),
-                    (
-                      differs _ _ _ (c9 .if9 .left) (c9 .before .same9 .ensures .1),
-                      (
-                        differs _ _ _ (c10 .if10 .left) (c10 .before .same10 .ensures .1),
-                        (
-                          differs _ _ _ (c11 .if11 .left) (c11 .before .same11 .ensures .1),
-                          (
-                            differs _ _ _ (c12 .if12 .left) (c12 .before .same12 .ensures .1),
-                            tt,
-                          ),
-                        ),
-                      ),
-                    ),
-                  ),
-                ),
-              ),
-            ),
-          ),
-        ),
-      ),
-    )
+    λ n.
+    wordless _ n
+    (differs _ _ _ (c1 .if1 .left) (c1 .before .same .ensures .1))
+    (differs _ _ _ (c2 .if2 .left) (c2 .before .same2 .ensures .1))
+    (differs _ _ _ (c3 .if3 .left) (c3 .before .same3 .ensures .1))
+    (differs _ _ _ (c4 .if4 .left) (c4 .before .same4 .ensures .1))
+    (differs _ _ _ (c5 .if5 .left) (c5 .before .same5 .ensures .1))
+    (differs _ _ _ (c6 .if6 .left) (c6 .before .same6 .ensures .1))
+    (differs _ _ _ (c7 .if7 .left) (c7 .before .same7 .ensures .1))
+    (differs _ _ _ (c8 .if8 .left) (c8 .before .same8 .ensures .1))
+    (differs _ _ _ (c9 .if9 .left) (c9 .before .same9 .ensures .1))
+    (differs _ _ _ (c10 .if10 .left) (c10 .before .same10 .ensures .1))
+    (differs _ _ _ (c11 .if11 .left) (c11 .before .same11 .ensures .1))
+    (differs _ _ _ (c12 .if12 .left) (c12 .before .same12 .ensures .1))
 
-pub word-spec : {M : Type 1} → statement M
-word-spec =
+pub word-of-spec : {M : Type 1} → statement M
+word-of-spec =
     tie.close
     (tie.spec
     slice-aggregate-same

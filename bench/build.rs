@@ -1,5 +1,5 @@
-//! Links the proved libraries of target/native: the namespaces, the table, and a copy of the table's whose soundness test says true at once, so that a
-//! command can be timed without the test. In the copy every name sgroup_* is notest_*, and the first instructions of the test are those that return true.
+//! Links, beside the proved library of target/native, a copy of it whose soundness test says true at once, so that a command can be timed without the
+//! test. In the copy every name sgroup_* is notest_*, and the first instructions of the test are those that return true.
 
 use std::path::Path;
 use std::{env, fs};
@@ -13,13 +13,9 @@ fn main() {
     let copy =
         without_test(fs::read(native.join("libsgroup_c.a")).expect("target/native/libsgroup_c.a"));
     fs::write(Path::new(&out).join("libnotest_c.a"), copy).unwrap();
-    println!("cargo:rustc-link-search=native={}", native.display());
     println!("cargo:rustc-link-search=native={out}");
-    println!("cargo:rustc-link-lib=static=namespace_c");
     println!("cargo:rustc-link-lib=static=notest_c");
-    for name in ["namespace_c", "sgroup_c"] {
-        println!("cargo:rerun-if-changed=../target/native/lib{name}.a");
-    }
+    println!("cargo:rerun-if-changed=../target/native/libsgroup_c.a");
 }
 
 /// The archive with other names and a test that returns true.

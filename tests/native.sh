@@ -6,8 +6,8 @@ cd "$(dirname "${BASH_SOURCE[0]}")/.."
 bad=0
 room=$(mktemp -d)
 trap 'rm -rf "$room"' EXIT
-mkdir -p "$room/bin" "$room/root/crates/low"
-: >"$room/root/crates.txt"
+mkdir -p "$room/bin" "$room/tree/crates/low"
+: >"$room/tree/crates.txt"
 cat >"$room/bin/rt" <<'KIT'
 #!/bin/sh
 echo used >>"${0%/bin/rt}/uses"
@@ -21,7 +21,7 @@ native=$PWD/tools/native-lib
 
 # A call, after which the kit was used so many times in all: builds WHAT TIMES
 builds() {
-    (cd "$room/root" && PATH=$room/bin:$PATH "$native" low >/dev/null) || { echo "$1: it fails"; bad=1; }
+    (cd "$room/tree" && PATH=$room/bin:$PATH "$native" low >/dev/null) || { echo "$1: it fails"; bad=1; }
     local times
     times=$(wc -l <"$room/uses")
     [ "$times" -eq "$2" ] || { echo "$1: the kit was used $times times, not $2"; bad=1; }
@@ -33,8 +33,8 @@ builds "the first build, in which a source changes" 1
 rm "$room/changing"
 builds "a build after that" 2
 builds "a build where nothing changed" 2
-: >"$room/root/crates/low/source"
+: >"$room/tree/crates/low/source"
 builds "a build after a change" 3
-rm "$room/root/target/native/liblow.a"
+rm "$room/tree/target/native/liblow.a"
 builds "a library that is gone" 4
 exit $bad

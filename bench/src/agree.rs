@@ -1,7 +1,7 @@
 //! Both sides are held to the same answers and words before anything is timed, on the random calls of tests/compare.
 
 use crate::api::{Api, PLAIN, PLAIN_UNTESTED, PROVED, PROVED_UNTESTED};
-use crate::call::{calls, Asked, Lent, Which};
+use crate::call::{self, Asked, Lent, Which};
 use compare::case::Case;
 use compare::random::{Kind, Walk, STEPS};
 use model::command::{Form, Request};
@@ -56,17 +56,16 @@ fn call_of(request: &Request) -> (Which, Asked) {
 /// What a side makes of a case: the number returned and all runs.
 fn outcome(api: &Api, case: &Case) -> (u64, Lent) {
     let (which, asked) = call_of(&case.request);
-    let mut lent = [Lent {
+    let lent = Lent {
         table: case.table.clone(),
         out: case.out.clone(),
         answer: case.answer.clone(),
-    }];
-    let returned = calls(api, which, &mut lent, &[asked]);
-    let [lent] = lent;
-    (returned, lent)
+    };
+    call::outcome(api, which, lent, asked)
 }
 
-fn says_sound(api: &Api, table: &[u64]) -> bool {
+/// What a side's test says.
+pub fn says_sound(api: &Api, table: &[u64]) -> bool {
     unsafe { (api.is_sound)(table.as_ptr(), table.len()) }
 }
 

@@ -92,6 +92,14 @@ pub fn calls(api: &Api, which: Which, lent: &mut [Lent], asked: &[Asked]) -> u64
     }
 }
 
+/// One call on one side: the number returned and all runs after it.
+pub fn outcome(api: &Api, which: Which, lent: Lent, asked: Asked) -> (u64, Lent) {
+    let mut all = [lent];
+    let returned = calls(api, which, &mut all, &[asked]);
+    let [lent] = all;
+    (returned, lent)
+}
+
 /// The same loop without the calls.
 #[inline(always)]
 pub fn no_calls(lent: &mut [Lent], asked: &[Asked]) -> u64 {

@@ -7,7 +7,7 @@ use crate::tables::{full_with, halves, subset, table, Size, FULL, SMALL};
 use model::prng::Prng;
 
 /// Different calls of a command, so many that no branch predictor learns them.
-const CALLS: usize = 4096;
+pub const CALLS: usize = 4096;
 /// Calls in a turn, each on a table of its own; the tables stay in the first cache.
 const TURN: usize = 3;
 /// Calls where the test dominates.
@@ -22,14 +22,14 @@ const TURNS: usize = 5;
 /// Calls where all are the same.
 const SAME_CALLS: usize = 64 * TURN;
 /// The ratio that a row is to stay within; the test of a small table has one of its own.
-const BAR: f64 = 1.5;
+pub const BAR: f64 = 1.5;
 const SMALL_TEST_BAR: f64 = 2.0;
 const PIDS_PER_HOST: u64 = 1 << 26;
 
 /// The proved side and the plain one.
-type Sides = [&'static Api; 2];
+pub type Sides = [&'static Api; 2];
 const TESTED: Sides = [&PROVED, &PLAIN];
-const UNTESTED: Sides = [&PROVED_UNTESTED, &PLAIN_UNTESTED];
+pub const UNTESTED: Sides = [&PROVED_UNTESTED, &PLAIN_UNTESTED];
 
 fn pick(prng: &mut Prng, set: u64) -> u32 {
     let mut left = set;
@@ -112,7 +112,8 @@ fn timed(sides: Sides, which: Which, words: &[u64], asked: &[Asked]) -> (f64, f6
     ((ours - empty) / calls, (theirs - empty) / calls)
 }
 
-fn test_timed(tables: &[Vec<u64>]) -> (f64, f64) {
+/// Nanoseconds a test of two sides, on these tables by turns.
+pub fn test_timed(tables: &[Vec<u64>]) -> (f64, f64) {
     let [ours, theirs] = race(
         TEST_ROUNDS,
         TURNS,
@@ -135,13 +136,14 @@ fn test_timed(tables: &[Vec<u64>]) -> (f64, f64) {
 }
 
 /// One line of the table, marked where the ratio is over the bar.
-fn row(what: &str, (ours, theirs): (f64, f64), bar: f64) {
+pub fn row(what: &str, (ours, theirs): (f64, f64), bar: f64) {
     let ratio = ours / theirs;
     let mark = if ratio > bar { "  over the bar" } else { "" };
     println!("{what:<46} {ours:>10.1} {theirs:>10.1} {ratio:>7.2}{mark}");
 }
 
-fn heading(what: &str) {
+/// The line above the rows of a table.
+pub fn heading(what: &str) {
     println!(
         "\n{what:<46} {:>10} {:>10} {:>7}",
         "proved ns", "plain ns", "ratio"
@@ -163,9 +165,9 @@ pub fn times(seed: u64) {
     tests(&mut prng);
     for (what, size) in [("full table", FULL), ("small table", SMALL)] {
         heading(&format!("{what}, with the test"));
-        commands(&mut prng, size, TESTED, TESTED_CALLS);
+        commands(&mut prng, &Which::COMMANDS, size, TESTED, TESTED_CALLS);
         heading(&format!("{what}, without the test"));
-        commands(&mut prng, size, UNTESTED, CALLS);
+        commands(&mut prng, &Which::COMMANDS, size, UNTESTED, CALLS);
     }
     free_nodes();
     opening(&mut prng);
@@ -192,9 +194,9 @@ fn tests(prng: &mut Prng) {
     }
 }
 
-/// So many calls of each command on a table of this size.
-fn commands(prng: &mut Prng, size: Size, sides: Sides, many: usize) {
-    for which in Which::COMMANDS {
+/// So many calls of each of these commands on a table of this size.
+pub fn commands(prng: &mut Prng, all: &[Which], size: Size, sides: Sides, many: usize) {
+    for &which in all {
         let grows = matches!(which, Which::RegisterName | Which::NewSGroup);
         let words = table(prng, if grows { roomy(size) } else { size });
         let asked = main_cases(prng, which, &words, many);

@@ -1,6 +1,6 @@
 //! Times the proved library against plain Rust written for speed, in one run, and prints the ratios: `bench SEED [PROGRAM WORD..]`. First both are held to
 //! the same answers and words on random calls and namespaces, and to the same lines on the scripts; `bench agree SEED [PROGRAM WORD..]` does that alone.
-//! Needs target/native/libnamespace_c.a and libsgroup_c.a; `bench/run` builds them, and gives the words that run the script program.
+//! Needs target/native/libsgroup_c.a; `bench/run` builds it, and gives the words that run the script program.
 
 mod agree;
 mod api;
@@ -66,7 +66,7 @@ fn times(seed: u64, program: &[String]) {
     commands::times(seed);
     commands::growth(seed);
     stack::depths(seed);
-    println!("\nnamespaces");
+    println!();
     agree_on_namespaces(seed);
     namespaces::times(seed);
     if !program.is_empty() {

@@ -1,4 +1,4 @@
-//! The same as the proved libraries in plain Rust, written for speed over the same words: what they are held against.
+//! The same as the proved library in plain Rust, written for speed over the same words: what they are held against.
 
 pub mod commands;
 pub mod namespace;

@@ -4,20 +4,21 @@ use mathlib.Core.Logic.{_↔_, _≢_, ⊎-elim}
 use mathlib.Core.Bool.{true, false, not, and-eq-true-iff, true≢false}
 use mathlib.Core.List.{List}
 use Prim.Native.Nat.{ℕ, zero, suc, _+_, _-_, _*_, _/_, _%_, _≤_, _<_}
-use native.Mathlib.Nat.{eq-or-lt-of-le, le-of-suc-le-suc, not-suc-le-zero}
+use native.Mathlib.Nat.{eq-or-lt-of-le, le-of-suc-le-suc, not-suc-le-zero, div-add-mod', mod-lt, le-div-iff-mul-le, div-lt-iff-lt-mul, mul-comm, mul-le-mul-left}
 use native.Mathlib.Omega.{arith}
 use lib.ListN.{length, getD, take, drop, length-drop}
 use lib.Seq.{getD-take, getD-drop, length-take-le}
 use borrow.Author.Tests.{eqb-true, eq-eqb, ltb-true, lt-ltb, not-true}
 use Rattle.nodes.specs.Sets.{node-limit, has, empty, roster, diff, union-all, word-at}
 use Rattle.nodes.specs.SetLaws.{has-diff, has-roster, below-pow, union-all-in, union-all-out}
-use Rattle.semantics.specs.Sizes.{group-limit, names-per-group, contents-at, members-at, links-at, free-at, bodies-at, table-words}
+use Rattle.semantics.specs.Sizes.{group-limit, contents-at, members-at, links-at, free-at, bodies-at, table-words}
 use Rattle.semantics.specs.Soundness.{size-of, hidden-of, count-of, name-of, members-of, links-of, free-of, entry-of, In, Free-normal, Sound}
 use Rattle.semantics.specs.Truth.{unless}
 use Rattle.free_test.specs.WireTests.{all-below, all-zero, links-sound, free-sound}
 use Rattle.free_test.specs.Below.{tests, below-iff, within-iff}
 use Rattle.free_test.specs.WireTestMeaning.{Sound-links, Sound-free, links-sound-iff, members-met-iff, free-sound-iff}
 use Rattle.groups_test.specs.GroupTests.{name-before, contents-right, members-right, part, members-part, links-part, free-part, met-right, names-right, head-right, unused-zero}
+use Rattle.groups_test.specs.GroupsBelow.{body-within}
 use Rattle.table.specs.NamesTestMeaning.{Names-sound, names-iff}
 
 -- ---- what is tested
@@ -77,7 +78,7 @@ above-before t n low up (suc g) l = up g (suc g) (omega arith) l
 
 -- ---- the free normal nodes
 
-module _ (t : List ℕ) (long : length t ≡ table-words names-per-group) (few : count-of t ≤ group-limit) where
+module _ (t : List ℕ) (long : bodies-at ≤ length t) (few : count-of t ≤ group-limit) where
   member-word : (g : ℕ) → g < count-of t → word-at (take (count-of t) (members-part t)) g ≡ members-of t g
   member-word g h = getD-take (count-of t) (members-part t) g 0 h ∙ part-word t members-at links-at g (omega arith)
 
@@ -109,7 +110,7 @@ module _ (t : List ℕ) (long : length t ≡ table-words names-per-group) (few :
 
 -- ---- all parts
 
-module _ (t : List ℕ) (long : length t ≡ table-words names-per-group) where
+module _ (cap : ℕ) (t : List ℕ) (long : length t ≡ table-words cap) where
   links-long : length (links-part t) ≡ node-limit
   links-long = length-part t links-at free-at (omega arith)
 
@@ -123,27 +124,32 @@ module _ (t : List ℕ) (long : length t ≡ table-words names-per-group) where
   same-free i l = part-word t free-at bodies-at i l
 
   -- the bodies past the first G s_groups, word by word
-  bodies-iff : (G : ℕ) → G ≤ group-limit → (all-zero (part t (bodies-at + names-per-group * G) (table-words names-per-group)) ≡ true)
-      ↔ ((g k : ℕ) → G ≤ g → g < group-limit → k < names-per-group → entry-of names-per-group t g k ≡ 0)
+  bodies-iff : (G : ℕ) → G ≤ group-limit → (all-zero (part t (bodies-at + cap * G) (table-words cap)) ≡ true)
+      ↔ ((g k : ℕ) → G ≤ g → g < group-limit → k < cap → entry-of cap t g k ≡ 0)
   bodies-iff G few = (
-    λ e g k l m b. zero-iff t (bodies-at + names-per-group * G) (table-words names-per-group) (omega arith) .0 e (bodies-at + (names-per-group * g + k)) (omega arith) (omega arith),
-    λ z. zero-iff t (bodies-at + names-per-group * G) (table-words names-per-group) (omega arith) .1 λ k l m.
-        let e : bodies-at + (names-per-group * ((k - bodies-at) / names-per-group) + (k - bodies-at) % names-per-group) ≡ k = omega arith in
-        ap (word-at t) (sym e) ∙ z ((k - bodies-at) / names-per-group) ((k - bodies-at) % names-per-group) (omega arith) (omega arith) (omega arith),
+    λ e g k l m b.
+        zero-iff t (bodies-at + cap * G) (table-words cap) (omega arith) .0 e (bodies-at + (cap * g + k)) (omega (arith, mul-le-mul-left cap l))
+        (omega (arith, body-within cap g group-limit m (omega arith))),
+    λ z. zero-iff t (bodies-at + cap * G) (table-words cap) (omega arith) .1 λ k l m.
+        let some : 0 < cap = omega arith in
+        let at = k - bodies-at in
+        let e : bodies-at + (cap * (at / cap) + at % cap) ≡ k = omega (arith, div-add-mod' at cap, mul-comm cap (at / cap)) in
+        ap (word-at t) (sym e)
+        ∙ z (at / cap) (at % cap) (le-div-iff-mul-le some .1 (omega (arith, mul-comm cap G))) (div-lt-iff-lt-mul some .1 (omega arith)) (mod-lt at some),
   )
 
   module _ (few : count-of t ≤ group-limit) where
-    body-inside : (g : ℕ) → g < count-of t → bodies-at + names-per-group * g + names-per-group ≤ length t
-    body-inside g l = omega arith
+    body-inside : (g : ℕ) → g < count-of t → bodies-at + cap * g + cap ≤ length t
+    body-inside g l = omega (arith, body-within cap g (count-of t) l few)
 
     free-iff : Sound-links (size-of t) (links-of t)
         → (free-sound (links-part t) (free-part t) (loose-of t) (size-of t) ≡ true) ↔ Sound-free (size-of t) (Free-normal t) (links-of t) (free-of t)
     free-iff s =
         free-sound-iff (links-part t) (free-part t) (loose-of t) (size-of t) (Free-normal t) (links-of t) (free-of t) links-long free-long same-links same-free
-        (loose-tells t long few) (λ i f. f .on-roster) s
+        (loose-tells t (omega arith) few) (λ i f. f .on-roster) s
 
   -- a table all of whose parts pass is sound
-  pub right-sound : Right names-per-group t → Sound names-per-group t
+  pub right-sound : Right cap t → Sound cap t
   right-sound r =
       let head = simp (within-iff, tests) at (r .head) in
       let few : count-of t ≤ group-limit = head .1 .1 .0 in
@@ -152,8 +158,8 @@ module _ (t : List ℕ) (long : length t ≡ table-words names-per-group) where
       let unused = simp tests at (r .unused) in
       let s : Sound-links (size-of t) (links-of t) = links-sound-iff (links-part t) (size-of t) (links-of t) links-long same-links .0 (r .links) in
       let f : Sound-free (size-of t) (Free-normal t) (links-of t) (free-of t) = free-iff few s .0 (r .free) in
-      let named : (g : ℕ) → g < count-of t → Names-sound names-per-group t (size-of t) g =
-      λ g l. names-iff names-per-group t (size-of t) g (body-inside few g l) .0 (below-iff _ _ .0 (r .names) g l) in
+      let named : (g : ℕ) → g < count-of t → Names-sound cap t (size-of t) g =
+      λ g l. names-iff cap t (size-of t) g (body-inside few g l) .0 (below-iff _ _ .0 (r .names) g l) in
       let up : (g : ℕ) → g < count-of t → name-before t g < name-of t g = λ g l. contents g l .0 in
       record {
         long = long;
@@ -161,7 +167,7 @@ module _ (t : List ℕ) (long : length t ≡ table-words names-per-group) where
         count-range = few;
         group-range = λ g l. omega (arith, up g l);
         process-range = λ g k l. named g l .range k;
-        groups-ascend = upward names-per-group t (count-of t) up;
+        groups-ascend = upward cap t (count-of t) up;
         manned = λ g l z. members g l .0 (eq-eqb _ _ z);
         names-few = λ g l. contents g l .1;
         names-ascend = λ g j k l. named g l .ascend j k;
@@ -190,7 +196,7 @@ module _ (t : List ℕ) (long : length t ≡ table-words names-per-group) where
       }
 
   -- every part of a sound table passes
-  pub sound-right : Sound names-per-group t → Right names-per-group t
+  pub sound-right : Sound cap t → Right cap t
   sound-right s =
       let l : Sound-links (size-of t) (links-of t) = record {
         few = s .size-range .1;
@@ -226,7 +232,7 @@ module _ (t : List ℕ) (long : length t ≡ table-words names-per-group) where
           own-words = s .own-words;
           shared = s .shared;
         });
-        names = below-iff _ _ .1 (λ g h. names-iff names-per-group t (size-of t) g (body-inside (s .count-range) g h) .1 (record {
+        names = below-iff _ _ .1 (λ g h. names-iff cap t (size-of t) g (body-inside (s .count-range) g h) .1 (record {
           few = s .names-few g h;
           range = λ k. s .process-range g k h;
           ascend = λ j k. s .names-ascend g j k h;

@@ -8,7 +8,7 @@ use native.Mathlib.Omega.{arith}
 use lib.ListN.{length, take}
 use Rattle.nodes.specs.Sets.{node-limit, roster, diff, union-all, word-at}
 use Rattle.nodes.specs.Bools.{test-ext}
-use Rattle.semantics.specs.Sizes.{group-limit, names-per-group, table-words}
+use Rattle.semantics.specs.Sizes.{group-limit, table-words}
 use Rattle.semantics.specs.Soundness.{size-of, hidden-of, count-of}
 use Rattle.semantics.specs.Test.{sound}
 use Rattle.semantics.specs.Agree.{sound-iff}
@@ -27,13 +27,13 @@ pub small : (t : List ℕ) → head-right (size-of t) (hidden-of t) (count-of t)
 small t e = let h = simp tests at e in record { size = h .1 .0; count = h .1 .1 .0 }
 
 -- a run of another length is no sound table
-pub wrong-length : (t : List ℕ) → length t ≢ table-words names-per-group → false ≡ sound names-per-group t
-wrong-length t n = sym (unless _ (λ e. n (sound-iff names-per-group t .0 e .long)))
+pub wrong-length : (cap : ℕ) (t : List ℕ) → length t ≢ table-words cap → false ≡ sound cap t
+wrong-length cap t n = sym (unless _ (λ e. n (sound-iff cap t .0 e .long)))
 
-module _ (t : List ℕ) (long : length t ≡ table-words names-per-group) where
+module _ (cap : ℕ) (t : List ℕ) (long : length t ≡ table-words cap) where
   -- nor is one whose head is not right
-  pub wrong-head : head-right (size-of t) (hidden-of t) (count-of t) (word-at t 3) ≡ false → false ≡ sound names-per-group t
-  wrong-head e = sym (unless _ (λ h. true≢false (sym (sound-right t long (sound-iff names-per-group t .0 h) .head) ∙ e)))
+  pub wrong-head : head-right (size-of t) (hidden-of t) (count-of t) (word-at t 3) ≡ false → false ≡ sound cap t
+  wrong-head e = sym (unless _ (λ h. true≢false (sym (sound-right cap t long (sound-iff cap t .0 h) .head) ∙ e)))
 
   module _ (head : head-right (size-of t) (hidden-of t) (count-of t) (word-at t 3) ≡ true) where
     loose-same : loose-in t (count-of t) (size-of t) ≡ loose-of t
@@ -41,7 +41,7 @@ module _ (t : List ℕ) (long : length t ≡ table-words names-per-group) where
         let e : min (size-of t) node-limit ≡ size-of t = omega (arith, small t head .size) in
         ap (λ (n : ℕ). diff (diff (roster n) (hidden-of t)) (union-all (take (count-of t) (members-part t)))) e
 
-    parts-all : parts-right names-per-group t (count-of t) (size-of t) ≡ true → Right names-per-group t
+    parts-all : parts-right cap t (count-of t) (size-of t) ≡ true → Right cap t
     parts-all e =
         let h = simp and-eq-true-iff at e in
         record {
@@ -55,7 +55,7 @@ module _ (t : List ℕ) (long : length t ≡ table-words names-per-group) where
           names = h .1 .1 .1 .1 .1 .1;
         }
 
-    all-parts : Right names-per-group t → parts-right names-per-group t (count-of t) (size-of t) ≡ true
+    all-parts : Right cap t → parts-right cap t (count-of t) (size-of t) ≡ true
     all-parts r =
         simp and-eq-true-iff (
           r .contents,
@@ -66,7 +66,7 @@ module _ (t : List ℕ) (long : length t ≡ table-words names-per-group) where
         )
 
     -- where the head is right, the rest decides
-    pub decides : parts-right names-per-group t (count-of t) (size-of t) ≡ sound names-per-group t
+    pub decides : parts-right cap t (count-of t) (size-of t) ≡ sound cap t
     decides =
-        test-ext _ (sound names-per-group t) (λ e. sound-iff names-per-group t .1 (right-sound t long (parts-all e)))
-        (λ h. all-parts (sound-right t long (sound-iff names-per-group t .0 h)))
+        test-ext _ (sound cap t) (λ e. sound-iff cap t .1 (right-sound cap t long (parts-all e)))
+        (λ h. all-parts (sound-right cap t long (sound-iff cap t .0 h)))

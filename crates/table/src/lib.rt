@@ -1,8 +1,9 @@
 // Whether a run of words is a sound table.
 ghost use mathlib.Core.Path.{_≡_};
-ghost use Prim.Native.Nat.{_≤_};
+ghost use Prim.Native.Nat.{_≤_, _<_};
 ghost use lib.ListN.{length};
-ghost use Rattle.semantics.specs.Sizes.{group-limit, names-per-group, table-words};
+ghost use Rattle.entries.specs.Entries.{half-word};
+ghost use Rattle.semantics.specs.Sizes.{group-limit, names-per-group, bodies-at, table-words};
 ghost use Rattle.semantics.specs.Test.{sound};
 ghost use Rattle.groups_test.specs.GroupTests.{head-right, unused-zero, loose-in, parts-right};
 use free_test::all_zero;
@@ -19,7 +20,6 @@ use layout::NAMES_PER_GROUP;
 use layout::NODE_LIMIT;
 use layout::SIZE_AT;
 use layout::SPARE_AT;
-use layout::TABLE_WORDS;
 use links_test::links_sound;
 
 // Whether the head is right: a roster size in range, hidden nodes on the roster, no more s_groups than there is room for, zero.
@@ -35,35 +35,36 @@ fn head_sound(size: u64, hidden: u64, count: u64, spare: u64) -> bool
     (count <= GROUP_LIMIT as u64) & ((spare == 0) & !nodes::beyond(hidden, size as u32))
 }
 
-// Whether contents, members and names past the first g s_groups are zero.
-fn unused_zero(t: &[u64], g: usize) -> bool
-    requires { ⌜ (length (now t) ≡ table-words names-per-group) × (g ≤ group-limit) ⌝ }
-    ensures { λ r. ⌜ r ≡ unused-zero names-per-group (now (t .entry)) g ⌝ }
+// Whether contents, members and names past the first g s_groups are zero, where each holds at most `cap` names.
+fn unused_zero(t: &[u64], g: usize, cap: usize) -> bool
+    requires { ⌜ (length (now t) ≡ table-words cap) × (g ≤ group-limit) ⌝ }
+    ensures { λ r. ⌜ r ≡ unused-zero cap (now (t .entry)) g ⌝ }
 {
     let contents = CONTENTS_AT + g;
     let members = MEMBERS_AT + g;
-    let bodies = BODIES_AT + NAMES_PER_GROUP * g;
+    let bodies = BODIES_AT + cap * g;
+    let end = BODIES_AT + GROUP_LIMIT * cap;
     all_zero(&t[contents..MEMBERS_AT])
-        & (all_zero(&t[members..LINKS_AT]) & all_zero(&t[bodies..TABLE_WORDS]))
+        & (all_zero(&t[members..LINKS_AT]) & all_zero(&t[bodies..end]))
 }
 
 // The normal nodes of the roster in no s_group.
 fn loose(t: &[u64], g: usize, n: u32) -> u64
-    requires { ⌜ length (now t) ≡ table-words names-per-group ⌝ }
+    requires { ⌜ bodies-at ≤ length (now t) ⌝ }
     ensures { λ r. ⌜ r ≡ loose-in (now (t .entry)) g n ⌝ }
 {
     let grouped = nodes::union_all(&t[MEMBERS_AT..LINKS_AT], g);
     nodes::diff(nodes::diff(nodes::roster(n), t[HIDDEN_AT]), grouped)
 }
 
-// Whether all that follows the head is right, for g s_groups and n nodes.
-fn parts_sound(t: &[u64], g: usize, n: u32) -> bool
-    requires { ⌜ (length (now t) ≡ table-words names-per-group) × (g ≤ group-limit) ⌝ }
-    ensures { λ r. ⌜ r ≡ parts-right names-per-group (now (t .entry)) g n ⌝ }
+// Whether all that follows the head is right, for g s_groups of at most `cap` names and n nodes.
+fn parts_sound(t: &[u64], g: usize, n: u32, cap: usize) -> bool
+    requires { ⌜ (length (now t) ≡ table-words cap) × (g ≤ group-limit) ⌝ }
+    ensures { λ r. ⌜ r ≡ parts-right cap (now (t .entry)) g n ⌝ }
 {
-    let contents = groups_test::contents_sound(t, g);
+    let contents = groups_test::contents_sound(t, g, cap);
     let members = groups_test::members_sound(t, g, n);
-    let unused = unused_zero(t, g);
+    let unused = unused_zero(t, g, cap);
     let links = links_sound(&t[LINKS_AT..FREE_AT], n);
     let met = groups_test::members_met(t, g);
     let free = free_sound(
@@ -72,21 +73,29 @@ fn parts_sound(t: &[u64], g: usize, n: u32) -> bool
         loose(t, g, n),
         n,
     );
-    let names = groups_test::names_sound(t, g, n);
+    let names = groups_test::names_sound(t, g, n, cap);
     contents & (members & (unused & (links & (met & (free & names)))))
+}
+
+// Whether the run is a sound table of s_groups that hold at most `cap` names each.
+fn sound_for(t: &[u64], cap: usize) -> bool
+    requires { ⌜ cap < half-word ⌝ }
+    ensures { λ r. ⌜ r ≡ sound cap (now (t .entry)) ⌝ }
+{
+    if t.len() != BODIES_AT + GROUP_LIMIT * cap {
+        return false;
+    }
+    let size = t[SIZE_AT];
+    let count = t[COUNT_AT];
+    if head_sound(size, t[HIDDEN_AT], count, t[SPARE_AT]) {
+        return parts_sound(t, count as usize, size as u32, cap);
+    }
+    false
 }
 
 // Whether the run is a sound table.
 pub fn is_sound(t: &[u64]) -> bool
     ensures { λ r. ⌜ r ≡ sound names-per-group (now (t .entry)) ⌝ }
 {
-    if t.len() != TABLE_WORDS {
-        return false;
-    }
-    let size = t[SIZE_AT];
-    let count = t[COUNT_AT];
-    if head_sound(size, t[HIDDEN_AT], count, t[SPARE_AT]) {
-        return parts_sound(t, count as usize, size as u32);
-    }
-    false
+    sound_for(t, NAMES_PER_GROUP)
 }

@@ -1,4 +1,4 @@
--- `wiring::all_zero` meets its contract: what is gathered is zero where the words passed are.
+-- `free_test::all_zero` meets its contract: what is gathered is zero where the words passed are.
 -- Assumes nothing.
 use borrow.Author.Needs.{needs}
 use mathlib.Core.Path.{_≡_, refl, sym, ap, _∙_}

@@ -1,4 +1,4 @@
--- `wiring::free_sound` meets its contract: each test is one of the definition's, and the words from n on are the rest of the run.
+-- `free_test::free_sound` meets its contract: each test is one of the definition's, and the words from n on are the rest of the run.
 -- Assumes nothing.
 use borrow.Author.Needs.{needs}
 use mathlib.Core.Path.{ap, ap₂, _∙_}

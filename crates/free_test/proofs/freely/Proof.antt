@@ -1,4 +1,4 @@
--- `wiring::freely` meets its contract: it asks for the node as the definition does, and `1 << i` is the node alone.
+-- `free_test::freely` meets its contract: it asks for the node as the definition does, and `1 << i` is the node alone.
 -- Assumes nothing.
 use borrow.Author.Needs.{needs}
 use borrow.Author.Tests.{eq-eqb, ne-eqb}

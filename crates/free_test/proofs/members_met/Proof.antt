@@ -1,4 +1,4 @@
--- `wiring::members_met` meets its contract: what is gathered and what is left of the set together say what the whole set says.
+-- `free_test::members_met` meets its contract: what is gathered and what is left of the set together say what the whole set says.
 -- The measure is what is left. Assumes nothing.
 use borrow.Author.Needs.{needs}
 use mathlib.Core.Path.{_≡_, refl, sym, ap, _∙_}

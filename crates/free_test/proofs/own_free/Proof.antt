@@ -1,4 +1,4 @@
--- `wiring::own_free` meets its contract: what is gathered is zero where each word passed is the group that is due.
+-- `free_test::own_free` meets its contract: what is gathered is zero where each word passed is the group that is due.
 -- Assumes nothing.
 use borrow.Author.Needs.{needs}
 use mathlib.Core.Path.{_≡_, sym, ap, _∙_}

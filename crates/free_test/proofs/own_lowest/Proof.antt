@@ -1,4 +1,4 @@
--- `wiring::own_lowest` meets its contract: what is gathered is zero where each word passed is that of its lowest node.
+-- `free_test::own_lowest` meets its contract: what is gathered is zero where each word passed is that of its lowest node.
 -- Assumes nothing.
 use borrow.Author.Needs.{needs}
 use mathlib.Core.Path.{_≡_, sym, ap, _∙_}

@@ -1,4 +1,4 @@
--- `parts::members_sound` meets its contract: what is carried is the test of the s_groups passed.
+-- `groups_test::members_sound` meets its contract: what is carried is the test of the s_groups passed.
 -- Assumes nothing.
 use borrow.Author.Needs.{needs}
 use mathlib.Core.Path.{_≡_, sym, ap, _∙_}

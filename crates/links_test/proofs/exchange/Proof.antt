@@ -1,4 +1,4 @@
--- `mutual::exchange` meets its contract: the pairs of rows passed are exchanged.
+-- `links_test::exchange` meets its contract: the pairs of rows passed are exchanged.
 -- Assumes nothing.
 use borrow.Author.Needs.{needs}
 use mathlib.Core.Path.{_≡_}

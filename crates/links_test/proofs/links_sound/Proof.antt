@@ -1,4 +1,4 @@
--- `mutual::links_sound` meets its contract: each test is one of the definition's, the words from n on are
+-- `links_test::links_sound` meets its contract: each test is one of the definition's, the words from n on are
 -- the rest of the run, and all 64 nodes are mutual where the n are.
 -- Assumes nothing.
 use borrow.Author.Needs.{needs}

@@ -1,4 +1,4 @@
--- `mutual::own_linked` meets its contract: what is gathered is zero where each word passed is what its node may have.
+-- `links_test::own_linked` meets its contract: what is gathered is zero where each word passed is what its node may have.
 -- Assumes nothing.
 use borrow.Author.Needs.{needs}
 use mathlib.Core.Path.{_≡_, sym, ap, ap₂, _∙_}

@@ -1,4 +1,4 @@
--- `mutual::pairs_mutual` meets its contract: each pair once is enough.
+-- `links_test::pairs_mutual` meets its contract: each pair once is enough.
 -- Assumes nothing.
 use borrow.Author.Needs.{needs}
 use mathlib.Core.Path.{_≡_, sym, ap, _∙_}

@@ -1,4 +1,4 @@
--- `mutual::row_mutual` meets its contract: the lowest digit of what is gathered is 0 where the connections with each node passed are mutual.
+-- `links_test::row_mutual` meets its contract: the lowest digit of what is gathered is 0 where the connections with each node passed are mutual.
 -- Assumes nothing.
 use borrow.Author.Needs.{needs}
 use mathlib.Core.Path.{_≡_, refl, sym, ap, _∙_}

@@ -1,4 +1,4 @@
--- `mutual::same_words` meets its contract: what is gathered is zero where the words passed are the same.
+-- `links_test::same_words` meets its contract: what is gathered is zero where the words passed are the same.
 -- Assumes nothing.
 use borrow.Author.Needs.{needs}
 use mathlib.Core.Path.{_≡_, refl, sym, ap, _∙_}

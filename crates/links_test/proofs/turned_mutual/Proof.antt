@@ -1,4 +1,4 @@
--- `mutual::turned_mutual` meets its contract: after six rounds row and column have changed places.
+-- `links_test::turned_mutual` meets its contract: after six rounds row and column have changed places.
 -- Assumes nothing.
 use borrow.Author.Needs.{needs}
 use mathlib.Core.Path.{_∙_}

@@ -1,6 +1,8 @@
 -- `table::unused_zero` meets its contract: the three parts are tested.
 -- Assumes nothing.
 use borrow.Author.Needs.{needs}
+use native.Mathlib.Omega.{arith}
+use Rattle.groups_test.specs.GroupsBelow.{bodies-before}
 use Rattle.table.proofs.unused_zero.Statement.{statement}
 use Rattle.table.proofs.unused_zero.Tie as tie
 
@@ -11,10 +13,20 @@ add-members : tie.Need-add-members
 add-members c = search needs
 
 mul-bodies : tie.Need-mul-bodies
-mul-bodies c = search needs
+mul-bodies c =
+    let a = c .before .args in
+    search (needs, bodies-before (a .cap) (a .g) (omega arith))
 
 add-bodies : tie.Need-add-bodies
-add-bodies c = search needs
+add-bodies c =
+    let a = c .before .args in
+    search (needs, bodies-before (a .cap) (a .g) (omega arith))
+
+mul-end : tie.Need-mul-end
+mul-end c = search needs
+
+add-end : tie.Need-add-end
+add-end c = search needs
 
 mul-all-zero : tie.Need-mul-all-zero
 mul-all-zero c = search needs
@@ -47,13 +59,19 @@ all-zero-requires-2 : tie.Need-all-zero-requires-2
 all-zero-requires-2 c κs = search needs
 
 mul-all-zero-3 : tie.Need-mul-all-zero-3
-mul-all-zero-3 c = search needs
+mul-all-zero-3 c =
+    let a = c .before .before .before .before .before .args in
+    search (needs, bodies-before (a .cap) (a .g) (omega arith))
 
 sub-all-zero-3 : tie.Need-sub-all-zero-3
-sub-all-zero-3 c = search needs
+sub-all-zero-3 c =
+    let a = c .before .before .before .before .before .args in
+    search (needs, bodies-before (a .cap) (a .g) (omega arith))
 
 part-all-zero-start-3 : tie.Need-part-all-zero-start-3
-part-all-zero-start-3 c = search needs
+part-all-zero-start-3 c =
+    let a = c .before .before .before .before .before .args in
+    search (needs, bodies-before (a .cap) (a .g) (omega arith))
 
 part-all-zero-end-3 : tie.Need-part-all-zero-end-3
 part-all-zero-end-3 c = search needs
@@ -72,6 +90,8 @@ unused-zero-spec =
     add-members
     mul-bodies
     add-bodies
+    mul-end
+    add-end
     mul-all-zero
     sub-all-zero
     part-all-zero-start

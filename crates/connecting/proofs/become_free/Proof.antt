@@ -1,4 +1,4 @@
--- `wires::become_free` meets its contract: the lot and the free groups that it touches are found member by member, and merged.
+-- `connecting::become_free` meets its contract: the lot and the free groups that it touches are found member by member, and merged.
 -- Assumes nothing.
 use borrow.Author.Needs.{needs}
 use Rattle.connecting.specs.Freeing.{nobody-freed, lot-freed}

@@ -1,4 +1,4 @@
--- `wires::connect` meets its contract: each return is one case of connecting.
+-- `connecting::connect` meets its contract: each return is one case of connecting.
 -- Assumes nothing.
 use borrow.Author.Needs.{needs}
 use mathlib.Core.Path.{sym, subst}

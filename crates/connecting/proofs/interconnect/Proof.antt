@@ -1,4 +1,4 @@
--- `wires::interconnect` meets its contract: the connections are lent and put back.
+-- `connecting::interconnect` meets its contract: the connections are lent and put back.
 -- Assumes nothing.
 use borrow.Author.Needs.{needs}
 use Rattle.semantics.specs.Steps.{interconnect}

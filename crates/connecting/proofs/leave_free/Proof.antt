@@ -1,4 +1,4 @@
--- `wires::leave_free` meets its contract: the roster's words of the free groups are lent and put back.
+-- `connecting::leave_free` meets its contract: the roster's words of the free groups are lent and put back.
 -- Assumes nothing.
 use borrow.Author.Needs.{needs}
 use Rattle.semantics.specs.WordsOfState.{size-is}

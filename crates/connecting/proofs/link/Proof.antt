@@ -1,4 +1,4 @@
--- `wires::link` meets its contract: each of the two words gets the other node.
+-- `connecting::link` meets its contract: each of the two words gets the other node.
 -- Assumes nothing.
 use borrow.Author.Needs.{needs}
 use native.Mathlib.Omega.{arith}

@@ -1,4 +1,4 @@
--- `wires::merge` meets its contract: the connections are lent and put back, and then the free groups.
+-- `connecting::merge` meets its contract: the connections are lent and put back, and then the free groups.
 -- Assumes nothing.
 use borrow.Author.Needs.{needs}
 use Rattle.semantics.specs.Steps.{interconnect, one-free-group}

@@ -1,4 +1,4 @@
--- `judge::caller_reason` meets its contract: each return is the definition's case.
+-- `inputs::caller_reason` meets its contract: each return is the definition's case.
 -- Assumes nothing.
 use borrow.Author.Tests.{le-leb, lt-leb}
 use Rattle.inputs.proofs.caller_reason.Statement.{statement}

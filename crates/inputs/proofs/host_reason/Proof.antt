@@ -1,4 +1,4 @@
--- `judge::host_reason` meets its contract: an earlier reason stands, and each later return is the definition's case.
+-- `inputs::host_reason` meets its contract: an earlier reason stands, and each later return is the definition's case.
 -- Assumes nothing.
 use borrow.Author.Needs.{needs}
 use borrow.Author.Tests.{le-leb, lt-leb}

@@ -1,4 +1,4 @@
--- `judge::name_reason` meets its contract: an earlier reason stands, and each later return is the definition's case.
+-- `inputs::name_reason` meets its contract: an earlier reason stands, and each later return is the definition's case.
 -- Assumes nothing.
 use borrow.Author.Needs.{needs}
 use borrow.Author.Tests.{eq-eqb, ne-eqb}

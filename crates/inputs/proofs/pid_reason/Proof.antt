@@ -1,4 +1,4 @@
--- `judge::pid_reason` meets its contract: an earlier reason stands, and each later return is the definition's case.
+-- `inputs::pid_reason` meets its contract: an earlier reason stands, and each later return is the definition's case.
 -- Assumes nothing.
 use borrow.Author.Needs.{needs}
 use borrow.Author.Tests.{le-leb, lt-leb}

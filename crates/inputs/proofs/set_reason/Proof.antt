@@ -1,4 +1,4 @@
--- `judge::set_reason` meets its contract: an earlier reason stands, and each later return is the definition's case.
+-- `inputs::set_reason` meets its contract: an earlier reason stands, and each later return is the definition's case.
 -- Assumes nothing.
 use borrow.Author.Needs.{needs}
 use mathlib.Core.Path.{sym, _∙_}

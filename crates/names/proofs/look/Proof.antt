@@ -1,4 +1,4 @@
--- `lookup::look` meets its contract: what the s_group holds for a member, and otherwise the reason that its place gives.
+-- `names::look` meets its contract: what the s_group holds for a member, and otherwise the reason that its place gives.
 -- Assumes nothing.
 use borrow.Author.Needs.{needs}
 use mathlib.Core.Path.{_≡_, sym, ap, _∙_}

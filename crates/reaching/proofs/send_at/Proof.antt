@@ -5,6 +5,7 @@ use mathlib.Core.Path.{_≡_, sym, ap, _∙_}
 use Prim.Native.Nat.{_<_}
 use native.Mathlib.Omega.{arith}
 use lib.ListN.{getD}
+use Rattle.nodes.specs.Sets.{node-limit}
 use Rattle.semantics.specs.Sizes.{group-names}
 use Rattle.semantics.specs.Table.{state-of}
 use Rattle.semantics.specs.Steps.{ask}
@@ -30,6 +31,14 @@ asked : (c : tie.After-enum-told) → let a = start c .args in
 asked c =
     let a = start c .args in
     asking-done (getD (a .t .now) 0 0) (a .caller) (a .node) (a .s) (a .n) (sym (c .before .before .asking-reason .ensures) ∙ c .enum-told .given .1)
+
+-- and are nodes that there can be
+limits : (c : tie.After-enum-told) → let a = start c .args in (a .caller < node-limit) × (a .node < node-limit)
+unfolding state-of
+limits c =
+    let p = start c in
+    let d = asked c in
+    (in-limit (p .args .t .now) (p .pre .1) (d .0), in-limit (p .args .t .now) (p .pre .1) (d .3))
 
 -- the lookup by the node
 abbrev looked : tie.After-connect → tie.After-look
@@ -66,12 +75,10 @@ look-requires : tie.Need-look-requires
 look-requires c κs = search needs
 
 connect-requires : tie.Need-connect-requires
-unfolding state-of
 connect-requires c κs =
     let j = c .before .before .before in
-    let p = start j in
-    let d = asked j in
-    (p .pre .0, (in-limit (p .args .t .now) (p .pre .1) (d .0), in-limit (p .args .t .now) (p .pre .1) (d .3)))
+    let both = limits j in
+    (start j .pre .0, (omega arith, omega arith))
 
 enum-known-found : tie.Need-enum-known-found
 enum-known-found c = search needs
@@ -83,8 +90,8 @@ connect-requires-2 c κs =
     let j = looked (e .before .before .before .before .before) .before .before in
     let p = start j in
     let a = p .args in
-    let d = asked j in
-    (search needs, (in-limit (a .t .now) (p .pre .1) (d .0), in-limit (a .t .now) (p .pre .1) (host-here (a .t .now) (p .pre .1) (a .node) (a .s) (a .n) _ (found e))))
+    let both = limits j in
+    (search needs, (omega arith, in-limit (a .t .now) (p .pre .1) (host-here (a .t .now) (p .pre .1) (a .node) (a .s) (a .n) _ (found e))))
 
 done-requires : tie.Need-done-requires
 done-requires c κs = search needs

@@ -53,7 +53,9 @@ connect-requires c κs =
     let p = start j in
     let a = p .args in
     let d = asking-done (getD (a .t .now) 0 0) (a .caller) (a .node) (a .s) (a .n) (sym (j .before .before .asking-reason .ensures) ∙ j .enum-told .given .1) in
-    (p .pre .0, (in-limit (a .t .now) (p .pre .1) (d .0), in-limit (a .t .now) (p .pre .1) (d .3)))
+    let from = in-limit (a .t .now) (p .pre .1) (d .0) in
+    let to = in-limit (a .t .now) (p .pre .1) (d .3) in
+    (p .pre .0, (omega arith, omega arith))
 
 enum-known-seen : tie.Need-enum-known-seen
 enum-known-seen c = search needs

@@ -1,1 +1,1 @@
-pub mod Unfit
+pub mod NoTable

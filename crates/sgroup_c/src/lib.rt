@@ -8,6 +8,7 @@ ghost use Rattle.semantics.specs.Call.{opening};
 ghost use Rattle.semantics.specs.Test.{sound};
 ghost use Rattle.answer_words.specs.AnswerWords.{told, commanded};
 use answer_words::put;
+use commands::Command;
 
 // How many words an answer takes: its kind, two numbers, the number of its reason.
 const ANSWER_WORDS: usize = 4;
@@ -36,6 +37,19 @@ pub extern "C" fn sgroup_open(table: &mut [u64], n: u32, hidden: u64, answer: &m
     put(answer, opening::open(table, n, hidden))
 }
 
+// A command, with its answer in the run `answer` and no run for a list.
+fn commanded(table: &mut [u64], caller: u32, command: Command, answer: &mut [u64]) -> u32
+    ensures { λ r. ⌜ r ≡ commanded caller command (now (answer .entry)) [] (now (table .entry)) .returned ⌝ }
+    ensures { λ _. ⌜ now (answer .exit) ≡ commanded caller command (now (answer .entry)) [] (now (table .entry)) .answer ⌝ }
+    ensures { λ _. ⌜ now (table .exit) ≡ commanded caller command (now (answer .entry)) [] (now (table .entry)) .table ⌝ }
+{
+    if answer.len() < ANSWER_WORDS {
+        return NO_ROOM;
+    }
+    let mut none = [0u64; 0];
+    put(answer, sgroup::call(table, &mut none, caller, command))
+}
+
 // Registers the pid under the name in the s_group.
 #[no_mangle]
 pub extern "C" fn sgroup_register_name(
@@ -50,10 +64,7 @@ pub extern "C" fn sgroup_register_name(
     ensures { λ _. ⌜ now (answer .exit) ≡ commanded caller (RegisterName s n p) (now (answer .entry)) [] (now (table .entry)) .answer ⌝ }
     ensures { λ _. ⌜ now (table .exit) ≡ commanded caller (RegisterName s n p) (now (answer .entry)) [] (now (table .entry)) .table ⌝ }
 {
-    if answer.len() < ANSWER_WORDS {
-        return NO_ROOM;
-    }
-    put(answer, sgroup::register_name(table, caller, s, n, p))
+    commanded(table, caller, Command::RegisterName { s, n, p }, answer)
 }
 
 // Registers the pid under the name in the s_group, in place of the one that the name had.
@@ -70,10 +81,7 @@ pub extern "C" fn sgroup_re_register_name(
     ensures { λ _. ⌜ now (answer .exit) ≡ commanded caller (ReRegisterName s n p) (now (answer .entry)) [] (now (table .entry)) .answer ⌝ }
     ensures { λ _. ⌜ now (table .exit) ≡ commanded caller (ReRegisterName s n p) (now (answer .entry)) [] (now (table .entry)) .table ⌝ }
 {
-    if answer.len() < ANSWER_WORDS {
-        return NO_ROOM;
-    }
-    put(answer, sgroup::re_register_name(table, caller, s, n, p))
+    commanded(table, caller, Command::ReRegisterName { s, n, p }, answer)
 }
 
 // Takes the name out of the s_group's namespace.
@@ -89,10 +97,7 @@ pub extern "C" fn sgroup_unregister_name(
     ensures { λ _. ⌜ now (answer .exit) ≡ commanded caller (UnregisterName s n) (now (answer .entry)) [] (now (table .entry)) .answer ⌝ }
     ensures { λ _. ⌜ now (table .exit) ≡ commanded caller (UnregisterName s n) (now (answer .entry)) [] (now (table .entry)) .table ⌝ }
 {
-    if answer.len() < ANSWER_WORDS {
-        return NO_ROOM;
-    }
-    put(answer, sgroup::unregister_name(table, caller, s, n))
+    commanded(table, caller, Command::UnregisterName { s, n }, answer)
 }
 
 // The names in the s_group, to the run `out`.
@@ -146,10 +151,7 @@ pub extern "C" fn sgroup_whereis_name_at(
     ensures { λ _. ⌜ now (answer .exit) ≡ commanded caller (WhereisNameAt node s n) (now (answer .entry)) [] (now (table .entry)) .answer ⌝ }
     ensures { λ _. ⌜ now (table .exit) ≡ commanded caller (WhereisNameAt node s n) (now (answer .entry)) [] (now (table .entry)) .table ⌝ }
 {
-    if answer.len() < ANSWER_WORDS {
-        return NO_ROOM;
-    }
-    put(answer, sgroup::whereis_name_at(table, caller, node, s, n))
+    commanded(table, caller, Command::WhereisNameAt { node, s, n }, answer)
 }
 
 // The caller sends to the pid, and connects with its host.
@@ -159,10 +161,7 @@ pub extern "C" fn sgroup_send(table: &mut [u64], caller: u32, p: u32, answer: &m
     ensures { λ _. ⌜ now (answer .exit) ≡ commanded caller (Send p) (now (answer .entry)) [] (now (table .entry)) .answer ⌝ }
     ensures { λ _. ⌜ now (table .exit) ≡ commanded caller (Send p) (now (answer .entry)) [] (now (table .entry)) .table ⌝ }
 {
-    if answer.len() < ANSWER_WORDS {
-        return NO_ROOM;
-    }
-    put(answer, sgroup::send(table, caller, p))
+    commanded(table, caller, Command::Send { p }, answer)
 }
 
 // The caller sends to the pid that it finds under the name in the s_group.
@@ -178,10 +177,7 @@ pub extern "C" fn sgroup_send_name(
     ensures { λ _. ⌜ now (answer .exit) ≡ commanded caller (SendName s n) (now (answer .entry)) [] (now (table .entry)) .answer ⌝ }
     ensures { λ _. ⌜ now (table .exit) ≡ commanded caller (SendName s n) (now (answer .entry)) [] (now (table .entry)) .table ⌝ }
 {
-    if answer.len() < ANSWER_WORDS {
-        return NO_ROOM;
-    }
-    put(answer, sgroup::send_name(table, caller, s, n))
+    commanded(table, caller, Command::SendName { s, n }, answer)
 }
 
 // The caller sends to the pid that the node finds under the name in the s_group.
@@ -198,10 +194,7 @@ pub extern "C" fn sgroup_send_at(
     ensures { λ _. ⌜ now (answer .exit) ≡ commanded caller (SendAt node s n) (now (answer .entry)) [] (now (table .entry)) .answer ⌝ }
     ensures { λ _. ⌜ now (table .exit) ≡ commanded caller (SendAt node s n) (now (answer .entry)) [] (now (table .entry)) .table ⌝ }
 {
-    if answer.len() < ANSWER_WORDS {
-        return NO_ROOM;
-    }
-    put(answer, sgroup::send_at(table, caller, node, s, n))
+    commanded(table, caller, Command::SendAt { node, s, n }, answer)
 }
 
 // A new s_group of the set.
@@ -217,10 +210,7 @@ pub extern "C" fn sgroup_new_s_group(
     ensures { λ _. ⌜ now (answer .exit) ≡ commanded caller (NewSGroup s set) (now (answer .entry)) [] (now (table .entry)) .answer ⌝ }
     ensures { λ _. ⌜ now (table .exit) ≡ commanded caller (NewSGroup s set) (now (answer .entry)) [] (now (table .entry)) .table ⌝ }
 {
-    if answer.len() < ANSWER_WORDS {
-        return NO_ROOM;
-    }
-    put(answer, sgroup::new_s_group(table, caller, s, set))
+    commanded(table, caller, Command::NewSGroup { s, set }, answer)
 }
 
 // The set joins the s_group.
@@ -236,10 +226,7 @@ pub extern "C" fn sgroup_add_nodes(
     ensures { λ _. ⌜ now (answer .exit) ≡ commanded caller (AddNodes s set) (now (answer .entry)) [] (now (table .entry)) .answer ⌝ }
     ensures { λ _. ⌜ now (table .exit) ≡ commanded caller (AddNodes s set) (now (answer .entry)) [] (now (table .entry)) .table ⌝ }
 {
-    if answer.len() < ANSWER_WORDS {
-        return NO_ROOM;
-    }
-    put(answer, sgroup::add_nodes(table, caller, s, set))
+    commanded(table, caller, Command::AddNodes { s, set }, answer)
 }
 
 // The members of the set leave the s_group.
@@ -255,10 +242,7 @@ pub extern "C" fn sgroup_remove_nodes(
     ensures { λ _. ⌜ now (answer .exit) ≡ commanded caller (RemoveNodes s set) (now (answer .entry)) [] (now (table .entry)) .answer ⌝ }
     ensures { λ _. ⌜ now (table .exit) ≡ commanded caller (RemoveNodes s set) (now (answer .entry)) [] (now (table .entry)) .table ⌝ }
 {
-    if answer.len() < ANSWER_WORDS {
-        return NO_ROOM;
-    }
-    put(answer, sgroup::remove_nodes(table, caller, s, set))
+    commanded(table, caller, Command::RemoveNodes { s, set }, answer)
 }
 
 // The s_group goes, with its names.
@@ -273,10 +257,7 @@ pub extern "C" fn sgroup_delete_s_group(
     ensures { λ _. ⌜ now (answer .exit) ≡ commanded caller (DeleteSGroup s) (now (answer .entry)) [] (now (table .entry)) .answer ⌝ }
     ensures { λ _. ⌜ now (table .exit) ≡ commanded caller (DeleteSGroup s) (now (answer .entry)) [] (now (table .entry)) .table ⌝ }
 {
-    if answer.len() < ANSWER_WORDS {
-        return NO_ROOM;
-    }
-    put(answer, sgroup::delete_s_group(table, caller, s))
+    commanded(table, caller, Command::DeleteSGroup { s }, answer)
 }
 
 // The nodes of the caller's groups, and how many they are.

@@ -1,4 +1,2 @@
 pub mod Turns
-pub mod Lists
-pub mod Reads
-pub mod Acts
+pub mod Called

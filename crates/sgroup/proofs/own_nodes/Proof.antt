@@ -3,7 +3,7 @@
 use borrow.Author.Needs.{needs}
 use mathlib.Core.Path.{sym, _∙_}
 use Rattle.commands.specs.declared.Command.the-variants.{OwnNodes}
-use Rattle.sgroup.specs.Unfit.{sound-run, says-unfit}
+use Rattle.sgroup.specs.NoTable.{sound-run, says-no-table}
 use Rattle.sgroup.proofs.own_nodes.Statement.{statement}
 use Rattle.sgroup.proofs.own_nodes.Tie as tie
 
@@ -16,13 +16,13 @@ own-nodes-requires c κs = sound-run (c .before .before .before .args .table .no
 returns : tie.Need-returns
 returns c = search needs
 
-unfit-requires : tie.Need-unfit-requires
-unfit-requires c κs = search needs
+no-table-requires : tie.Need-no-table-requires
+no-table-requires c κs = search needs
 
 returns-2 : tie.Need-returns-2
 returns-2 c =
     let a = c .before .before .before .before .args in
-    says-unfit 0 (a .caller) OwnNodes (a .table .now) (c .unfit .result) (sym (c .before .before .is-sound .ensures) ∙ c .before .if1 .left) (c .unfit .ensures) .0
+    says-no-table 0 (a .caller) OwnNodes (a .table .now) (c .no-table .result) (sym (c .before .before .is-sound .ensures) ∙ c .before .if1 .left) (c .no-table .ensures) .0
 
 pub own-nodes-spec : {M : Type 1} → statement M
 own-nodes-spec =
@@ -31,5 +31,5 @@ own-nodes-spec =
     is-sound-requires
     own-nodes-requires
     returns
-    unfit-requires
+    no-table-requires
     returns-2)

@@ -3,7 +3,7 @@
 use borrow.Author.Needs.{needs}
 use mathlib.Core.Path.{sym, _∙_}
 use Rattle.commands.specs.declared.Command.the-variants.{RegisteredNames}
-use Rattle.sgroup.specs.Unfit.{sound-run, lists-unfit}
+use Rattle.sgroup.specs.NoTable.{sound-run, lists-no-table}
 use Rattle.sgroup.proofs.registered_names.Statement.{statement}
 use Rattle.sgroup.proofs.registered_names.Tie as tie
 
@@ -19,13 +19,13 @@ same-length c = search needs
 returns : tie.Need-returns
 returns c = search needs
 
-unfit-requires : tie.Need-unfit-requires
-unfit-requires c κs = search needs
+no-table-requires : tie.Need-no-table-requires
+no-table-requires c κs = search needs
 
 returns-2 : tie.Need-returns-2
 returns-2 c =
     let a = c .before .before .before .before .before .args in
-    lists-unfit (a .caller) (RegisteredNames (a .s)) (a .table .now) (a .out .now) (c .unfit .result) (sym (c .before .before .is-sound .ensures) ∙ c .before .if1 .left) (c .unfit .ensures)
+    lists-no-table (a .caller) (RegisteredNames (a .s)) (a .table .now) (a .out .now) (c .no-table .result) (sym (c .before .before .is-sound .ensures) ∙ c .before .if1 .left) (c .no-table .ensures)
 
 pub registered-names-spec : {M : Type 1} → statement M
 registered-names-spec =
@@ -35,5 +35,5 @@ registered-names-spec =
     registered-names-requires
     same-length
     returns
-    unfit-requires
+    no-table-requires
     returns-2)

@@ -4,7 +4,7 @@ use borrow.Author.Needs.{needs}
 use mathlib.Core.Path.{ap, _∙_}
 use Rattle.print.specs.Sheets.{put}
 use Rattle.turns.specs.Turns.{request-turn}
-use Rattle.turns.specs.Lists.{opening-bare}
+use Rattle.step.specs.Lists.{opening-bare}
 use Rattle.turns.proofs.opened.Statement.{statement}
 use Rattle.turns.proofs.opened.Tie as tie
 

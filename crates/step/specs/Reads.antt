@@ -21,7 +21,7 @@ use Rattle.semantics.specs.Agree.{test-regular}
 use Rattle.semantics.specs.Call.{refused, written, call}
 use Rattle.answers.specs.declared.Value.{Value}
 use Rattle.answers.specs.declared.Reason.the-variants.{TableLength, Unsound, CallerUnknown}
-use Rattle.turns.specs.Lists.{lists}
+use Rattle.step.specs.Lists.{lists}
 
 -- ---- the length of the run
 

@@ -11,7 +11,7 @@ use lib.Seq.{drop-length, drop-drop}
 use Rattle.text.specs.Text.{newline, find-in}
 use Rattle.line.specs.Requests.{request-of}
 use Rattle.line.specs.declared.Request.{Request}
-use Rattle.line.specs.declared.Request.the-variants.{Unfit}
+use Rattle.line.specs.declared.Request.the-variants.{BadLine}
 use Rattle.turns.specs.Turns.{request-turn}
 use Rattle.script.specs.Scripts.{script-limit, Line, ended, cut, overlong, push, lines-of, one-line, lines-from, size-of, line-turn}
 
@@ -139,8 +139,8 @@ line-first script i h = rw (le-leb (length script) script-limit h)
 
 unfoldable pub asks : Line → Request
 asks (ended l) = request-of l
-asks (cut l) = Unfit
-asks (overlong l) = Unfit
+asks (cut l) = BadLine
+asks (overlong l) = BadLine
 
 -- the first line is called as what it asks
 pub turn-first : (t s : List ℕ) → line-turn t (first-of s) ≡ request-turn t (asks (first-of s))

@@ -11,9 +11,8 @@ use lib.ListN.{length, take, drop}
 use lib.Seq.{length-take-le}
 use Rattle.nodes.specs.Bools.{by-lt}
 use Rattle.semantics.specs.Call.{call, opening}
-use Rattle.forms.specs.Forms.{command-of}
 use Rattle.line.specs.declared.Request.{Request}
-use Rattle.line.specs.declared.Request.the-variants.{Open, Command, Unfit}
+use Rattle.line.specs.declared.Request.the-variants.{Open, Command, BadLine}
 use Rattle.line.specs.Requests.{request-of}
 use Rattle.text.specs.FieldLaws.{part-rest}
 use Rattle.print.specs.Sheets.{Sheet, sheet, put}
@@ -30,10 +29,10 @@ request-few : (t : List ℕ) (r : Request) → length (request-turn t r .text) �
 unfolding request-turn
 request-few t (Open N hidden) =
     omega (arith, answer-few (opening N hidden t .list) (opening N hidden t .answer), ap length (opening-bare N hidden t))
-request-few t (Command k i a b c set) =
-    let r = call list-room i (command-of k a b c set) t in
-    omega (arith, answer-few (r .list) (r .answer), call-fits list-room i (command-of k a b c set) t)
-request-few t Unfit = omega arith
+request-few t (Command i c) =
+    let r = call list-room i c t in
+    omega (arith, answer-few (r .list) (r .answer), call-fits list-room i c t)
+request-few t BadLine = omega arith
 
 pub line-few : (t : List ℕ) (l : Line) → length (line-turn t l .text) ≤ line-room
 unfolding line-turn

@@ -43,7 +43,7 @@ fn first(s: &[u8]) -> Head
     }
     Head {
         size: s.len(),
-        request: Request::Unfit,
+        request: Request::BadLine,
     }
 }
 

@@ -2,9 +2,8 @@
 use mathlib.Core.List.{List}
 use Prim.Native.Nat.{ℕ}
 use Rattle.semantics.specs.Call.{Call, call, opening}
-use Rattle.forms.specs.Forms.{command-of}
 use Rattle.line.specs.declared.Request.{Request}
-use Rattle.line.specs.declared.Request.the-variants.{Open, Command, Unfit}
+use Rattle.line.specs.declared.Request.the-variants.{Open, Command, BadLine}
 use Rattle.print.specs.Printed.{answer-line, bad-line}
 
 -- the run that is lent for a list has so many words
@@ -17,8 +16,8 @@ pub record Turn : Type 0 where
   pub table : List ℕ
 
 -- a call prints the line of its answer
-abbrev pub told : Call → Turn
-told c = record { text = answer-line (c .list) (c .answer); table = c .table }
+abbrev pub printed-call : Call → Turn
+printed-call c = record { text = answer-line (c .list) (c .answer); table = c .table }
 
 -- this is printed, and nothing changes
 abbrev pub says : List ℕ → List ℕ → Turn
@@ -26,6 +25,6 @@ says text t = record { text = text; table = t }
 
 -- a request is called
 unfoldable pub request-turn : List ℕ → Request → Turn
-request-turn t (Open N hidden) = told (opening N hidden t)
-request-turn t (Command number caller a b c set) = told (call list-room caller (command-of number a b c set) t)
-request-turn t Unfit = says bad-line t
+request-turn t (Open N hidden) = printed-call (opening N hidden t)
+request-turn t (Command caller c) = printed-call (call list-room caller c t)
+request-turn t BadLine = says bad-line t

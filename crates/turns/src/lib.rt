@@ -4,42 +4,9 @@ ghost use lib.ListN.{length};
 ghost use Rattle.print.specs.Sheets.{sheet, put};
 ghost use Rattle.turns.specs.Turns.{list-room, request-turn};
 ghost use Rattle.step.specs.Lists.{count-of};
-ghost use Rattle.turns.specs.Acts.{after, acts};
-use answers::Answer;
 use answers::Value;
+use commands::Command;
 use line::Request;
-
-// The command of a number; a list goes to `words`.
-fn act(
-    table: &mut [u64],
-    words: &mut [u64],
-    number: u32,
-    caller: u32,
-    a: u32,
-    b: u32,
-    c: u32,
-    set: u64,
-) -> Answer
-    ensures { λ r. ⌜ after r (now (table .exit)) (now (words .exit)) ≡ acts (now (table .entry)) (now (words .entry)) number caller a b c set ⌝ }
-{
-    match number {
-        1 => sgroup::register_name(table, caller, a, b, c),
-        2 => sgroup::re_register_name(table, caller, a, b, c),
-        3 => sgroup::unregister_name(table, caller, a, b),
-        4 => sgroup::registered_names(table, caller, a, words),
-        5 => sgroup::whereis_name(table, caller, a, b),
-        6 => sgroup::whereis_name_at(table, caller, a, b, c),
-        7 => sgroup::send(table, caller, a),
-        8 => sgroup::send_name(table, caller, a, b),
-        9 => sgroup::send_at(table, caller, a, b, c),
-        10 => sgroup::new_s_group(table, caller, a, set),
-        11 => sgroup::add_nodes(table, caller, a, set),
-        12 => sgroup::remove_nodes(table, caller, a, set),
-        13 => sgroup::delete_s_group(table, caller, a),
-        14 => sgroup::own_nodes(table, caller),
-        _ => sgroup::own_s_groups(table, caller, words),
-    }
-}
 
 // How many words a list has, by its answer's value.
 fn count_of(value: Value) -> usize
@@ -64,18 +31,14 @@ fn called(
     words: &mut [u64],
     out: &mut [u8],
     at: usize,
-    number: u32,
     caller: u32,
-    a: u32,
-    b: u32,
-    c: u32,
-    set: u64,
+    command: Command,
 ) -> usize
     requires { ⌜ length (now words) ≡ list-room ⌝ }
-    ensures { λ p. ⌜ (sheet (now (out .exit)) p ≡ put (sheet (now (out .entry)) at) (request-turn (now (table .entry)) (Request.Command number caller a b c set) .text))
-        × (now (table .exit) ≡ request-turn (now (table .entry)) (Request.Command number caller a b c set) .table) ⌝ }
+    ensures { λ p. ⌜ (sheet (now (out .exit)) p ≡ put (sheet (now (out .entry)) at) (request-turn (now (table .entry)) (Request.Command caller command) .text))
+        × (now (table .exit) ≡ request-turn (now (table .entry)) (Request.Command caller command) .table) ⌝ }
 {
-    let answer = act(table, words, number, caller, a, b, c, set);
+    let answer = sgroup::call(table, words, caller, command);
     let value = answer.value;
     let count = count_of(value);
     print::put_answer(out, at, &words[..count], answer)
@@ -104,14 +67,7 @@ pub fn request_turn(
 {
     match request {
         Request::Open(n, hidden) => opened(table, words, out, at, n, hidden),
-        Request::Command {
-            number,
-            caller,
-            a,
-            b,
-            c,
-            set,
-        } => called(table, words, out, at, number, caller, a, b, c, set),
-        Request::Unfit => print::put_bytes(out, at, b"bad-line\n"),
+        Request::Command { caller, command } => called(table, words, out, at, caller, command),
+        Request::BadLine => print::put_bytes(out, at, b"bad-line\n"),
     }
 }

@@ -1,26 +1,13 @@
--- Sets of nodes as numbers: node i is in w where the binary digit i of w is 1. Definitions only: this file is what a reader has to believe.
--- Assumes nothing.
+-- What the code and the proofs do with sets of nodes, over the definitions of `NodeSets`, which are passed on. Definitions only. Assumes nothing.
 use mathlib.Core.Bool.{Bool, false, _||_, cond}
 use mathlib.Core.List.{List, [], _∷_}
-use Prim.Native.Nat.{ℕ, zero, suc, _-_, _/_, _%_, _^_}
-use lib.Dec.{eqb, leb, ltb}
-use lib.Bits.{bitAnd, bitOr}
+use Prim.Native.Nat.{ℕ, zero, suc, _-_, _^_}
+use lib.Dec.{eqb, ltb}
+use lib.Bits.{bitAnd}
 use lib.Count.{ones, trailingZeros}
-use lib.ListN.{getD}
-
--- how many nodes there can be: a word of 64 digits holds the nodes 0 to 63
-abbrev pub node-limit : ℕ
-node-limit = 64
+unfoldable pub use Rattle.nodes.specs.NodeSets.{node-limit, bit, has, single, union, beyond, word-at}
 
 -- ---- membership
-
--- the binary digit i of w: 1 where i is in w, else 0
-abbrev pub bit : ℕ → ℕ → ℕ
-bit w i = w / 2 ^ i % 2
-
--- whether i is in w
-abbrev pub has : ℕ → ℕ → Bool
-has w i = eqb (bit w i) 1
 
 -- whether w has no member
 abbrev pub empty : ℕ → Bool
@@ -28,17 +15,9 @@ empty w = eqb w 0
 
 -- ---- sets
 
--- i alone
-abbrev pub single : ℕ → ℕ
-single i = 2 ^ i
-
 -- the first n nodes: 0 to n - 1
 abbrev pub roster : ℕ → ℕ
 roster n = 2 ^ n - 1
-
--- the nodes that are in a or in b
-unfoldable pub union : ℕ → ℕ → ℕ
-union a b = bitOr a b
 
 -- the nodes that are in a and in b
 unfoldable pub inter : ℕ → ℕ → ℕ
@@ -60,10 +39,6 @@ without-node w i = diff w (single i)
 abbrev pub subset : ℕ → ℕ → Bool
 subset a b = eqb (inter a b) a
 
--- whether a node of w is not among the first n
-abbrev pub beyond : ℕ → ℕ → Bool
-beyond w n = leb (2 ^ n) w
-
 -- ---- members
 
 -- how many nodes w has
@@ -79,10 +54,6 @@ abbrev pub rest : ℕ → ℕ
 rest w = without-node w (lowest w)
 
 -- ---- lists of sets
-
--- the word at i, and the empty set past the list's end
-abbrev pub word-at : List ℕ → ℕ → ℕ
-word-at ws i = getD ws i 0
 
 -- the union of all words of a list
 unfoldable pub union-all : List ℕ → ℕ

@@ -2,10 +2,11 @@
 -- docs/STATEMENTS.md are made of; of the others a reader needs the statements alone.
 
 -- ---- the published semantics (believed): 000's state, functions and transitions; the published state of a table; 01's reasons and the whole answer;
--- which published states there are
+-- opening; which published states there are
 pub mod Published
 pub mod Seen
 pub mod Refusals
+pub mod Opens
 pub mod WellFormed
 -- ---- the theorems: answers and next tables are the published ones, the lowest reason is given, opening, what a refused lookup or send leaves
 pub mod Exact

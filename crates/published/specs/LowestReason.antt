@@ -15,7 +15,7 @@ use Rattle.commands.specs.declared.Command.the-variants.{RegisterName, ReRegist
 use Rattle.answers.specs.declared.Reason.{Reason}
 use Rattle.answers.specs.declared.Reason.the-variants.{Done, TableLength, RosterSize, Unsound, CallerUnknown, GroupNameRange, NameZero, NodeUnknown, GroupUnknown, NotMember, NameTaken, PidTaken, NotRegistered, NamespaceFull, CallerOutside, GroupTaken, GroupsFull, RunShort}
 use Rattle.published.specs.Published.{Set, Published}
-use Rattle.published.specs.Refusals.{Test, first, tests, opening-tests}
+use Rattle.published.specs.Refusals.{Test, first, In, Lowest, tests, opening-tests}
 
 -- ---- ranks
 
@@ -46,19 +46,9 @@ by-number r q = rw (rank-is r, rank-is q) (λ h. h, λ h. h)
 
 -- ---- the lowest
 
--- a test of the list
-abbrev pub In : Test → List Test → Type 0
-In t [] = ⊥
-In t (u ∷ us) = (t ≡ u) ⊎ In t us
-
 -- the ranks of the reasons
 abbrev pub ranks : List Test → List ℕ
 ranks ts = map (λ t. rank (t .reason)) ts
-
--- r is the lowest reason of ts that holds, or Done where none does
-pub record Lowest (ts : List Test) (r : Reason) : Type 0 where
-  pub given : ((r ≡ Done) × ((t : Test) → In t ts → t .holds ≡ false)) ⊎ ((t : Test) × In t ts × (t .holds ≡ true) × (r ≡ t .reason))
-  pub least : (t : Test) → In t ts → t .holds ≡ true → rank r ≤ rank (t .reason)
 
 above : (b : ℕ) (ts : List Test) → ascending b (ranks ts) ≡ true → (t : Test) → In t ts → b < rank (t .reason)
 above b [] h t i = absurd i

@@ -15,20 +15,20 @@ use Rattle.semantics.specs.State.{find}
 use Rattle.answers.specs.Answers.{refuses, answer-of}
 use Rattle.semantics.specs.Steps.{opened}
 use Rattle.semantics.specs.Table.{layout}
-use Rattle.semantics.specs.Soundness.{Sound}
-use Rattle.semantics.specs.Call.{Call, refused, opening}
+use Rattle.semantics.specs.Call.{refused, opening}
 use Rattle.semantics.specs.Regular.{Regular}
 use Rattle.semantics.specs.Truth.{neither}
 use Rattle.semantics.specs.Members.{at-mapi}
 use Rattle.semantics.specs.OpenedRegular.{opened-regular}
 use Rattle.semantics.specs.RoundTrip.{round-trip}
 use Rattle.semantics.specs.Agree.{regular-test, sound-iff}
-use Rattle.answers.specs.declared.Value.the-variants.{Ok, Error}
+use Rattle.answers.specs.declared.Value.the-variants.{Ok}
 use Rattle.answers.specs.declared.Reason.{Reason}
 use Rattle.answers.specs.declared.Reason.the-variants.{Done, TableLength, RosterSize, NodeUnknown}
 use Rattle.published.specs.Published.{Set, any, only, nobody, NoGroup, Names, Opening}
-use Rattle.published.specs.Seen.{published, seen-table}
+use Rattle.published.specs.Seen.{published}
 use Rattle.published.specs.Refusals.{first, opening-tests}
+use Rattle.published.specs.Opens.{Opens}
 use Rattle.published.specs.SomeBelow.{any-no, any-beyond}
 
 zeros : (n i : ℕ) → _≡_ {A = ℕ} (getD (replicate n 0) i 0) 0
@@ -59,13 +59,6 @@ opens N hidden high =
     no-links i = ap has (zeros node-limit i) ∙ fun-ext has-none
 
 -- ---- on tables
-
--- what opening gives, for the reason: Ok, and a sound table with that state; or Error, and the table as it was
-pub record Opens (r : Reason) (N hidden : ℕ) (t : List ℕ) (c : Call) : Type 0 where
-  pub answer-is : c .answer ≡ answer-of (cond (refuses r) Error Ok) r
-  pub no-list : c .list ≡ []
-  pub accepted : refuses r ≡ false → Sound names-per-group (c .table) × (seen-table (c .table) ≡ Opening N (has hidden))
-  pub left : refuses r ≡ true → c .table ≡ t
 
 pub exact-opening : (N hidden : ℕ) (t : List ℕ) → hidden < 2 ^ node-limit
     → Opens (first (opening-tests (length t) N (has hidden))) N hidden t (opening N hidden t)

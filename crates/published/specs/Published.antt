@@ -5,8 +5,8 @@ use mathlib.Core.Bool.{Bool, false, not, _&&_, _||_, cond}
 use mathlib.Core.Option.{Option, none, some}
 use Prim.Native.Nat.{ℕ, zero, suc}
 use lib.Dec.{eqb, ltb}
-use Rattle.nodes.specs.Sets.{node-limit, has}
-use Rattle.entries.specs.Entries.{half-word, host}
+use Rattle.nodes.specs.NodeSets.{node-limit, has}
+use Rattle.entries.specs.Registered.{half-word, host}
 use Rattle.semantics.specs.Sizes.{group-names}
 use Rattle.commands.specs.declared.Command.{Command}
 use Rattle.commands.specs.declared.Command.the-variants.{RegisterName, ReRegisterName, UnregisterName, RegisteredNames, WhereisName, WhereisNameAt, Send, SendName, SendAt, NewSGroup, AddNodes, DeleteSGroup, OwnNodes, OwnSGroups}

@@ -1,17 +1,19 @@
 -- The reasons of document 01 over the published state, and the whole answer: the lowest reason that holds, then 01's refusal or 000's rule.
 -- For a command reasons 1 and 3 stand before, where a table is read as a state. Assumes nothing.
-use mathlib.Core.Bool.{Bool, not, _&&_, _||_, cond}
+use mathlib.Core.Path.{_≡_}
+use mathlib.Core.Logic.{_⊎_}
+use mathlib.Core.Bool.{Bool, true, false, not, _&&_, _||_, cond}
 use mathlib.Core.Option.{none}
 use mathlib.Core.List.{List, [], _∷_}
-use Prim.Native.Nat.{ℕ}
+use Prim.Native.Nat.{ℕ, _≤_}
 use lib.Dec.{eqb, ltb, leb}
 use lib.ListN.{length}
-use Rattle.nodes.specs.Sets.{node-limit, has}
-use Rattle.entries.specs.Entries.{half-word, host}
+use Rattle.nodes.specs.NodeSets.{node-limit, has}
+use Rattle.entries.specs.Registered.{half-word, host}
 use Rattle.semantics.specs.Sizes.{group-limit, names-per-group, group-names, table-words}
 use Rattle.commands.specs.declared.Command.{Command}
 use Rattle.commands.specs.declared.Command.the-variants.{RegisterName, ReRegisterName, UnregisterName, RegisteredNames, WhereisName, WhereisNameAt, Send, SendName, SendAt, NewSGroup, AddNodes, RemoveNodes, DeleteSGroup, OwnNodes, OwnSGroups}
-use Rattle.answers.specs.Answers.{among, refuses, answer-of}
+use Rattle.answers.specs.Answers.{rank, among, refuses, answer-of}
 use Rattle.semantics.specs.Ranges.{held, bad-group}
 use Rattle.answers.specs.declared.Answer.{Answer}
 use Rattle.answers.specs.declared.Reason.{Reason}
@@ -65,6 +67,16 @@ r when x = record { reason = r; holds = x }
 abbrev pub first : List Test → Reason
 first [] = Done
 first (t ∷ ts) = cond (t .holds) (t .reason) (first ts)
+
+-- a test of the list
+abbrev pub In : Test → List Test → Type 0
+In t [] = ⊥
+In t (u ∷ us) = (t ≡ u) ⊎ In t us
+
+-- r is the lowest reason of ts that holds, or Done where none does
+pub record Lowest (ts : List Test) (r : Reason) : Type 0 where
+  pub given : ((r ≡ Done) × ((t : Test) → In t ts → t .holds ≡ false)) ⊎ ((t : Test) × In t ts × (t .holds ≡ true) × (r ≡ t .reason))
+  pub least : (t : Test) → In t ts → t .holds ≡ true → rank r ≤ rank (t .reason)
 
 -- unregister_name, whereis_name/2 and send/3
 abbrev pub tests-name : ℕ → ℕ → ℕ → Published → List Test

@@ -15,7 +15,8 @@ use Rattle.semantics.specs.Regular.{Regular}
 use Rattle.semantics.specs.Connected.{regular-connect}
 use Rattle.semantics.specs.RoundTrip.{round-trip}
 use Rattle.semantics.specs.Agree.{test-regular, regular-test, sound-iff}
-use Rattle.semantics.specs.Refused.{Asks, refused-links}
+use Rattle.semantics.specs.Asks.{Asks}
+use Rattle.semantics.specs.Refused.{refused-links}
 use Rattle.published.specs.Published.{AddConnections}
 use Rattle.published.specs.Seen.{published, seen-table}
 use Rattle.published.specs.ConnectRule.{connects}

@@ -6,11 +6,11 @@ use mathlib.Core.List.{List, [], _∷_, _++_}
 use Prim.Native.Nat.{ℕ, zero, suc, _*_, _/_, _%_}
 use lib.Dec.{ltb}
 use lib.ListN.{length}
-use Rattle.nodes.specs.Sets.{node-limit, has, single, union, word-at}
-use Rattle.entries.specs.Entries.{half-word, lookup}
+use Rattle.nodes.specs.NodeSets.{node-limit, has, single, union, word-at}
+use Rattle.entries.specs.Registered.{half-word, lookup}
 use Rattle.semantics.specs.Sizes.{group-names, names-per-group}
-use Rattle.semantics.specs.State.{Group, State, free-of, find}
-use Rattle.semantics.specs.Table.{state-of}
+use Rattle.semantics.specs.TableState.{Group, State, free-of, find}
+use Rattle.semantics.specs.TableRead.{state-of}
 use Rattle.answers.specs.declared.Value.{Value}
 use Rattle.answers.specs.declared.Value.the-variants.{Grouped, Nodes, Listed}
 use Rattle.answers.specs.declared.Value.the-variants as W

@@ -6,8 +6,8 @@ use mathlib.Core.Bool.{Bool, true, false, not, _&&_, _||_, cond}
 use mathlib.Core.Option.{some}
 use Prim.Native.Nat.{ℕ, _≤_, _<_}
 use lib.Dec.{eqb, ltb}
-use Rattle.nodes.specs.Sets.{node-limit}
-use Rattle.entries.specs.Entries.{half-word, host}
+use Rattle.nodes.specs.NodeSets.{node-limit}
+use Rattle.entries.specs.Registered.{half-word, host}
 use Rattle.semantics.specs.Sizes.{group-limit, names-per-group, group-names}
 use Rattle.semantics.specs.Ranges.{held}
 use Rattle.published.specs.Published.{Set, _∖_, any, Namespace, SGroup, Node, Published, those, IsSGroupNode}

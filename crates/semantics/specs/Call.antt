@@ -4,7 +4,7 @@ use mathlib.Core.List.{List, [], _++_}
 use Prim.Native.Nat.{ℕ}
 use lib.Dec.{eqb, ltb}
 use lib.ListN.{length, drop}
-use Rattle.nodes.specs.Sets.{node-limit, beyond}
+use Rattle.nodes.specs.NodeSets.{node-limit, beyond}
 use Rattle.semantics.specs.Sizes.{names-per-group, table-words}
 use Rattle.commands.specs.declared.Command.{Command}
 use Rattle.answers.specs.Answers.{answer-of}

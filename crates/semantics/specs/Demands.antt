@@ -20,7 +20,8 @@ use Rattle.semantics.specs.Regular.{Regular}
 use Rattle.semantics.specs.StepsKeep.{keeps}
 use Rattle.semantics.specs.Agree.{test-regular, sound-iff}
 use Rattle.semantics.specs.Mixes.{Turn, of, Mix, Disjoint, All-lines, Each-once, whole, Agree}
-use Rattle.semantics.specs.Lines.{Said, Line, key, Same-group, Line-fits, group-in, said-by-call, step-move, step-say, call-move, call-say, news, all-news}
+use Rattle.semantics.specs.Lines.{Said, Line, key, Same-group, Line-fits, group-in, said-by-call, call-move, call-say, news, all-news}
+use Rattle.semantics.specs.LineSteps.{step-move, step-say}
 use Rattle.semantics.specs.Mixing.{of-head, of-tail, whole-mix, mixing, agree-through}
 use Rattle.semantics.specs.Swap.{isolation}
 use Rattle.semantics.specs.MixedStates.{mixed}

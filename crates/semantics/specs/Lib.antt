@@ -1,23 +1,27 @@
 -- The commands as steps on a state, the table and its soundness, a call, and what is proved of them. Files marked (believed) have the definitions that
 -- the statements of docs/STATEMENTS.md are made of; of the others a reader needs the statements alone.
 
--- ---- sizes and arguments (believed): capacities and places of the table; ranges; how wide arguments are; the seven commands of one s_group
+-- ---- sizes and arguments (believed): capacities and places of the table; ranges; how wide arguments are; the seven commands of one s_group; which
+-- commands ask another node
 pub mod Sizes
 pub mod Ranges
 pub mod Fits
 pub mod GroupCommands
+pub mod Asks
 -- ---- a table (believed): the state that it stands for, as a record and read from its words; soundness, clause by clause
-pub mod State
-pub mod Table
+pub mod TableState
+pub mod TableRead
 pub mod Soundness
 -- ---- a call (believed): length, soundness, step; opening; the run for a list
 pub mod Call
 -- ---- mixes of scripts (believed): scripts, mixes and orders, over any machine; script lines and what their callers hear
 pub mod Mixes
 pub mod Lines
--- ---- the steps that a call takes: the fifteen commands and opening on a state, the test that computes
+-- ---- the steps that a call takes: changes of a state, the fifteen commands and opening on it, the words of a state, the test that computes
+pub mod State
 pub mod Steps
 pub mod Within
+pub mod Table
 pub mod Test
 -- ---- 01 by computation: the marked steps, the sample and the edges, readings that are not ours
 pub mod Compute
@@ -66,6 +70,7 @@ pub mod Growing
 pub mod Frame
 pub mod NamingFrame
 -- ---- isolation and demand 3: effects on two s_groups, the swap law, mixes over any machine, on states, on tables
+pub mod LineSteps
 pub mod Effects
 pub mod Swap
 pub mod Mixing

@@ -1,19 +1,16 @@
--- Script lines of the seven commands that change one s_group at most and free no node: what each makes of a state or a table, and what its caller hears.
+-- Script lines of the seven commands that change one s_group at most and free no node: what each makes of a table, and what its caller hears.
 -- Definitions only. Assumes nothing.
 use mathlib.Core.Path.{_≡_}
-use mathlib.Core.Logic.{_≢_}
 use mathlib.Core.Bool.{false, cond}
 use mathlib.Core.Option.{Option}
 use mathlib.Core.List.{List, [], _∷_}
-use Prim.Native.Nat.{ℕ, _+_, _≤_}
-use lib.ListN.{length}
-use Rattle.semantics.specs.Sizes.{group-limit, names-per-group}
+use Prim.Native.Nat.{ℕ, _+_}
+use Rattle.semantics.specs.Sizes.{names-per-group}
 use Rattle.semantics.specs.Ranges.{bad-group}
-use Rattle.semantics.specs.State.{Group, State, find}
-use Rattle.semantics.specs.GroupCommands.{GroupCommand, within}
-use Rattle.semantics.specs.Steps.{Result, target, creates, step}
+use Rattle.semantics.specs.TableState.{Group, find}
+use Rattle.semantics.specs.GroupCommands.{GroupCommand, within, target, creates}
 use Rattle.semantics.specs.Fits.{Fits}
-use Rattle.semantics.specs.Table.{state-of}
+use Rattle.semantics.specs.TableRead.{state-of}
 use Rattle.semantics.specs.Call.{Call, call}
 use Rattle.answers.specs.declared.Answer.{Answer}
 
@@ -39,24 +36,6 @@ Same-group a b = (bad-group (key a) ≡ false) × (key a ≡ key b)
 -- the arguments of a line fit
 abbrev pub Line-fits : Line → Type 0
 Line-fits l = Fits (within (l .command))
-
--- ---- on a state
-
--- what a step says
-abbrev pub said-by-step : Result → Said
-said-by-step r = record { answer = r .answer; list = r .list }
-
--- the step of a line
-abbrev pub step-of : Line → State → Result
-step-of l st = step (l .room) (l .caller) (within (l .command)) st
-
--- the state after a line
-abbrev pub step-move : Line → State → State
-step-move l st = step-of l st .next
-
--- what a line's caller hears
-abbrev pub step-say : Line → State → Said
-step-say l st = said-by-step (step-of l st)
 
 -- ---- on a table
 
@@ -95,7 +74,3 @@ news (l ∷ ls) = cost l + news ls
 abbrev pub all-news : List (List Line) → ℕ
 all-news [] = 0
 all-news (s ∷ ss) = news s + all-news ss
-
--- there is room for n s_groups more, where n is not zero
-abbrev pub Room-for : ℕ → State → Type 0
-Room-for n st = n ≢ 0 → length (st .groups) + n ≤ group-limit

@@ -18,6 +18,7 @@ use Rattle.semantics.specs.State.{Group, State, find}
 use Rattle.commands.specs.declared.Command.{Command}
 use Rattle.commands.specs.declared.Command.the-variants.{RegisterName, ReRegisterName, UnregisterName, RegisteredNames, WhereisName, WhereisNameAt, Send, SendName, SendAt, NewSGroup, AddNodes, RemoveNodes, DeleteSGroup, OwnNodes, OwnSGroups}
 use Rattle.semantics.specs.GroupCommands.{GroupCommand, register-name, re-register-name, unregister-name, whereis-name, registered-names, add-nodes, new-s-group}
+use Rattle.semantics.specs.Asks.{Asks, by-lookup, by-send, Asks-none}
 use Rattle.semantics.specs.Ranges.{bad-group, held}
 use Rattle.semantics.specs.Steps.{Outcome, Effect, keep, Result, Looked, error, as-member, for-member, full, name-words, own-list, listed, looked, look-in, ask, tell, send-on, asking, connect, inside, outcome, apply, target, group-step, rule, step}
 use Rattle.semantics.specs.Table.{layout, state-of}
@@ -29,15 +30,6 @@ use Rattle.semantics.specs.Calls.{why, call-sound, call-unsound}
 use Rattle.answers.specs.declared.Value.{Value}
 use Rattle.answers.specs.declared.Reason.{Reason}
 use Rattle.answers.specs.declared.Reason.the-variants.{TableLength, Unsound}
-
--- the command asks the node j: a lookup or send by another node
-pub data Asks : Command → ℕ → Type 0 where
-  by-lookup : {j s n : ℕ} → Asks (WhereisNameAt j s n) j
-  by-send : {j s n : ℕ} → Asks (SendAt j s n) j
-
--- the command asks no other node
-abbrev pub Asks-none : Command → Type 0
-Asks-none c = (j : ℕ) → Asks c j → ⊥
 
 -- ---- commands that name one s_group
 

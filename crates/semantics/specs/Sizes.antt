@@ -2,7 +2,7 @@
 -- A roster has at most `node-limit` nodes, as many as a word has digits.
 use mathlib.Core.Path.{_≡_, refl}
 use Prim.Native.Nat.{ℕ, _+_, _*_}
-use Rattle.nodes.specs.Sets.{node-limit}
+use Rattle.nodes.specs.NodeSets.{node-limit}
 
 -- there are at most this many s_groups
 abbrev pub group-limit : ℕ

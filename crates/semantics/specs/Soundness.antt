@@ -6,8 +6,8 @@ use mathlib.Core.Bool.{true}
 use mathlib.Core.List.{List}
 use Prim.Native.Nat.{ℕ, _+_, _*_, _/_, _%_, _≤_, _<_}
 use lib.ListN.{length}
-use Rattle.nodes.specs.Sets.{node-limit, has, word-at}
-use Rattle.entries.specs.Entries.{half-word, host}
+use Rattle.nodes.specs.NodeSets.{node-limit, has, word-at}
+use Rattle.entries.specs.Registered.{half-word, host}
 use Rattle.semantics.specs.Sizes.{group-limit, group-names, contents-at, members-at, links-at, free-at, bodies-at, table-words}
 
 -- ---- the words by their meaning

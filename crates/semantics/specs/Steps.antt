@@ -1,6 +1,6 @@
 -- The fifteen commands on a state, and the state of opening: answer, list and next state. Reasons 1 and 3 stand before these rules, where a table is
 -- read as a state. `Published` has the transitions of document 000; a theorem says that these steps are those. Assumes nothing.
-use mathlib.Core.Bool.{Bool, true, false, not, _&&_, _||_, cond}
+use mathlib.Core.Bool.{Bool, not, _&&_, _||_, cond}
 use mathlib.Core.Option.{Option, none, some}
 use mathlib.Core.List.{List, [], _∷_, map}
 use Prim.Native.Nat.{ℕ, suc, _*_, _+_}
@@ -11,6 +11,7 @@ use Rattle.entries.specs.Entries.{Entry, half-word, host, insert, remove, looku
 use Rattle.commands.specs.declared.Command.{Command}
 use Rattle.commands.specs.declared.Command.the-variants.{RegisterName, ReRegisterName, UnregisterName, RegisteredNames, WhereisName, WhereisNameAt, Send, SendName, SendAt, NewSGroup, AddNodes, RemoveNodes, DeleteSGroup, OwnNodes, OwnSGroups}
 use Rattle.semantics.specs.GroupCommands.{GroupCommand, register-name, re-register-name, unregister-name, whereis-name, registered-names, add-nodes, new-s-group}
+unfoldable pub use Rattle.semantics.specs.GroupCommands.{target, creates}
 use Rattle.answers.specs.Answers.{answer-of}
 use Rattle.semantics.specs.Ranges.{bad-group, held}
 use Rattle.semantics.specs.Sizes.{group-limit, names-per-group, group-names}
@@ -102,26 +103,6 @@ abbrev pub error : Reason → State → Result
 error r st = reply Error r st
 
 -- ---- the seven commands of one s_group. All but new_s_group feel that s_group alone; it feels how many there are
-
--- the s_group that it names
-abbrev pub target : GroupCommand → ℕ
-target (register-name s n p) = s
-target (re-register-name s n p) = s
-target (unregister-name s n) = s
-target (whereis-name s n) = s
-target (registered-names s) = s
-target (add-nodes s set) = s
-target (new-s-group s set) = s
-
--- whether it is new_s_group
-abbrev pub creates : GroupCommand → Bool
-creates (register-name s n p) = false
-creates (re-register-name s n p) = false
-creates (unregister-name s n) = false
-creates (whereis-name s n) = false
-creates (registered-names s) = false
-creates (add-nodes s set) = false
-creates (new-s-group s set) = true
 
 -- what becomes of the s_group: nothing; these members and names; a set joins, so that all members meet and the set leaves the free
 -- groups; it is made of a set

@@ -3,6 +3,7 @@ use answers::Answer;
 use answers::Reason;
 use commands::Command;
 use layout::TABLE_WORDS;
+use table::is_sound;
 ghost use mathlib.Core.Path.{_≡_};
 ghost use lib.ListN.{length};
 ghost use Rattle.commands.specs.declared.Command.the-variants.{RegisteredNames, WhereisName, OwnNodes, OwnSGroups};
@@ -27,7 +28,7 @@ pub fn call(table: &mut [u64], out: &mut [u64], caller: u32, command: Command) -
     ensures { λ _. ⌜ now (table .exit) ≡ call (length (now (out .entry))) caller command (now (table .entry)) .table ⌝ }
     ensures { λ _. ⌜ now (out .exit) ≡ listed-over (call (length (now (out .entry))) caller command (now (table .entry)) .list) (now (out .entry)) ⌝ }
 {
-    if table::is_sound(table) {
+    if is_sound(table) {
         return step::step(table, out, caller, command);
     }
     no_table(table)
@@ -40,7 +41,7 @@ pub fn registered_names(table: &[u64], caller: u32, s: u32, out: &mut [u64]) -> 
     ensures { λ r. ⌜ r ≡ call (length (now (out .entry))) caller (RegisteredNames s) (now (table .entry)) .answer ⌝ }
     ensures { λ _. ⌜ now (out .exit) ≡ listed-over (call (length (now (out .entry))) caller (RegisteredNames s) (now (table .entry)) .list) (now (out .entry)) ⌝ }
 {
-    if table::is_sound(table) {
+    if is_sound(table) {
         return reading::registered_names(table, caller, s, out);
     }
     no_table(table)
@@ -50,7 +51,7 @@ pub fn registered_names(table: &[u64], caller: u32, s: u32, out: &mut [u64]) -> 
 pub fn whereis_name(table: &[u64], caller: u32, s: u32, n: u32) -> Answer
     ensures { λ r. ⌜ r ≡ call 0 caller (WhereisName s n) (now (table .entry)) .answer ⌝ }
 {
-    if table::is_sound(table) {
+    if is_sound(table) {
         return reading::whereis_name(table, caller, s, n);
     }
     no_table(table)
@@ -60,7 +61,7 @@ pub fn whereis_name(table: &[u64], caller: u32, s: u32, n: u32) -> Answer
 pub fn own_nodes(table: &[u64], caller: u32) -> Answer
     ensures { λ r. ⌜ r ≡ call 0 caller OwnNodes (now (table .entry)) .answer ⌝ }
 {
-    if table::is_sound(table) {
+    if is_sound(table) {
         return own::own_nodes(table, caller);
     }
     no_table(table)
@@ -71,7 +72,7 @@ pub fn own_s_groups(table: &[u64], caller: u32, out: &mut [u64]) -> Answer
     ensures { λ r. ⌜ r ≡ call (length (now (out .entry))) caller OwnSGroups (now (table .entry)) .answer ⌝ }
     ensures { λ _. ⌜ now (out .exit) ≡ listed-over (call (length (now (out .entry))) caller OwnSGroups (now (table .entry)) .list) (now (out .entry)) ⌝ }
 {
-    if table::is_sound(table) {
+    if is_sound(table) {
         return own::own_s_groups(table, caller, out);
     }
     no_table(table)

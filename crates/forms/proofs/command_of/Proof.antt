@@ -4,7 +4,6 @@ use mathlib.Core.Path.{_≡_}
 use Prim.Native.Nat.{ℕ}
 use borrow.Author.Tests.{ne-eqb}
 use Rattle.forms.specs.Forms.{forms, form-from, form-of, command-of}
-use Rattle.forms.specs.declared.Formed.{Formed}
 use Rattle.forms.specs.declared.Formed.the-variants.{Nothing}
 use Rattle.forms.proofs.command_of.Statement.{statement}
 use Rattle.forms.proofs.command_of.Tie as tie

@@ -1,18 +1,18 @@
 -- What holds of the arguments where no reason speaks against them. Assumes nothing.
 use mathlib.Core.Path.{_≡_, refl, sym, ap, _∙_}
 use mathlib.Core.Bool.{Bool, true, false, not, cond, true≢false, false≢true}
-use Prim.Native.Nat.{ℕ, _^_, _<_}
+use Prim.Native.Nat.{ℕ, _<_}
 use native.Mathlib.Omega.{arith}
 use lib.Dec.{eqb, leb}
 use borrow.Author.Tests.{eqb-false, leb-false, not-false}
-use Rattle.nodes.specs.Sets.{has, beyond}
+use Rattle.nodes.specs.Sets.{has}
 use Rattle.entries.specs.Entries.{host}
 use Rattle.semantics.specs.Sizes.{group-limit, group-names}
 use Rattle.semantics.specs.Ranges.{bad-group}
 use Rattle.semantics.specs.Truth.{neither}
 use Rattle.answers.specs.declared.Reason.{Reason}
 use Rattle.answers.specs.declared.Reason.the-variants.{Done, TableLength, RosterSize, Unsound, CallerUnknown, GroupNameRange, NameZero, NodeUnknown, GroupUnknown, NotMember, NameTaken, PidTaken, NotRegistered, NamespaceFull, CallerOutside, GroupTaken, GroupsFull, RunShort}
-use Rattle.inputs.specs.Judge.{is-done, first-of, caller-reason, group-reason, name-reason, pid-reason, set-reason, creation-reason, asking-reason, host-reason}
+use Rattle.inputs.specs.Judge.{is-done, first-of, caller-reason, group-reason, name-reason, set-reason, creation-reason, asking-reason, host-reason}
 
 -- ---- reasons
 
@@ -64,16 +64,6 @@ pub name-done : (N i s n : ℕ) → name-reason N i s n ≡ Done → (group-reas
 name-done N i s n e =
     let a = none-of (group-reason N i s) _ e in
     (a .0, omega (arith, eqb-false n 0 (missed (eqb n 0) NameZero Done refl (a .1) .0)))
-
-pub pid-done : (N i s n p : ℕ) → pid-reason N i s n p ≡ Done → (name-reason N i s n ≡ Done) × (host p < N)
-pid-done N i s n p e =
-    let a = none-of (name-reason N i s n) _ e in
-    (a .0, leb-false N (host p) (missed (leb N (host p)) NodeUnknown Done refl (a .1) .0))
-
-pub set-done : (N i s set : ℕ) → set-reason N i s set ≡ Done → (group-reason N i s ≡ Done) × (set < 2 ^ N)
-set-done N i s set e =
-    let a = none-of (group-reason N i s) _ e in
-    (a .0, leb-false (2 ^ N) set (missed (beyond set N) NodeUnknown Done refl (a .1) .0))
 
 pub creation-done : (N G i s set : ℕ) (taken : Bool) → creation-reason N G i s set taken ≡ Done
     → (set-reason N i s set ≡ Done) × (has set i ≡ true) × (taken ≡ false) × (G < group-limit)

@@ -1,8 +1,6 @@
 // The test of connections: each stays on the roster, and goes both ways. Pair by pair, or by turning the words about their diagonal.
 use nodes::NODE_LIMIT;
-use nodes::lowest;
 use nodes::roster;
-use nodes::without;
 ghost use mathlib.Core.Path.{_≡_};
 ghost use Prim.Native.Nat.{_≤_, _<_};
 ghost use lib.ListN.{length};

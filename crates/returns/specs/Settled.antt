@@ -109,18 +109,6 @@ module _ {st : State} {t : List ℕ} (l : Laid names-per-group st t) {s k : ℕ}
             (subst (λ (ns : List Entry). Laid names-per-group (with-names k ns st) u)
             (renew-is-insert-remove 0 n p (q .0) (names-at k st) (standing r w .regular .names-sound .names) (q .1)) m)
 
-        module _ (absent : held (lookup n (names-at k st)) ≡ false) where
-          pub no-room-anew : names-per-group ≤ counted k t → Settles s (re-register-in n p (w .group)) st (answer-of False NamespaceFull) t
-          no-room-anew h = kept _ False NamespaceFull (rw (tested (holds-pid p) fresh, tested (λ ns. held (lookup n ns)) absent, is-full h))
-
-          pub registered-anew : counted k t < names-per-group → (u : List ℕ) → Laid names-per-group (with-names k (insert (record { name = n; pid = p }) (names-at k st)) st) u
-              → Settles s (re-register-in n p (w .group)) st (answer-of True Done) u
-          registered-anew h u m =
-              named _ True (insert (record { name = n; pid = p }) (names-at k st)) u
-              (rw (tested (holds-pid p) fresh, tested (λ ns. held (lookup n ns)) absent, has-room h, names-of st w)
-              (ap (λ (ns : List Entry). done (hold (w .group .members) (insert (record { name = n; pid = p }) ns)) True)
-              (remove-absent n (w .group .names) (not-held _ (tested (λ ns. held (lookup n ns)) absent))))) m
-
 -- ---- unregister_name
 
 module _ {st : State} {t : List ℕ} (l : Laid names-per-group st t) {s k : ℕ} (w : Seat s k (st .groups)) (n : ℕ) (u : List ℕ)

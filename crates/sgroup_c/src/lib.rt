@@ -1,7 +1,6 @@
 // The library for C and Rust: opening, the test and the commands, with numbers for their answers. A run is passed as a pointer and a length.
 ghost use mathlib.Core.Path.{_≡_};
 ghost use mathlib.Core.List.{[]};
-ghost use Rattle.answers.specs.Answers.{number};
 ghost use Rattle.semantics.specs.Sizes.{names-per-group};
 ghost use Rattle.commands.specs.declared.Command.the-variants.{RegisterName, ReRegisterName, UnregisterName, RegisteredNames, WhereisName, WhereisNameAt, Send, SendName, SendAt, NewSGroup, AddNodes, RemoveNodes, DeleteSGroup, OwnNodes, OwnSGroups};
 ghost use Rattle.semantics.specs.Call.{opening};

@@ -1,7 +1,7 @@
 -- The test, part by part, says the clauses of the soundness of a table, and the clauses say that every part of the test passes. Assumes nothing.
 use mathlib.Core.Path.{_≡_, sym, ap, _∙_}
 use mathlib.Core.Logic.{_↔_, _≢_, ⊎-elim}
-use mathlib.Core.Bool.{true, false, not, and-eq-true-iff, true≢false}
+use mathlib.Core.Bool.{true, not, and-eq-true-iff, true≢false}
 use mathlib.Core.List.{List}
 use Prim.Native.Nat.{ℕ, zero, suc, _+_, _-_, _*_, _/_, _%_, _≤_, _<_}
 use native.Mathlib.Nat.{eq-or-lt-of-le, le-of-suc-le-suc, not-suc-le-zero, div-add-mod', mod-lt, le-div-iff-mul-le, div-lt-iff-lt-mul, mul-comm, mul-le-mul-left}

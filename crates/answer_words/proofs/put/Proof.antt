@@ -1,4 +1,4 @@
--- `told::put` meets its contract: four stores are the words of the answer before the rest of the run.
+-- `answer_words::put` meets its contract: four stores are the words of the answer before the rest of the run.
 -- Assumes nothing.
 use borrow.Author.Needs.{needs}
 use native.Mathlib.Omega.{arith}

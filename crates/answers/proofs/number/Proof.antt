@@ -1,4 +1,4 @@
--- `semantics::number` meets its contract: each arm returns what the definition gives for its variant.
+-- `answers::number` meets its contract: each arm returns what the definition gives for its variant.
 -- Assumes nothing.
 use borrow.Author.Needs.{needs}
 use mathlib.Core.Path.{sym, ap}

@@ -1,4 +1,4 @@
--- `fields::count` meets its contract: n, with the fields from i on, is one more than all fields.
+-- `text::count` meets its contract: n, with the fields from i on, is one more than all fields.
 -- Assumes nothing.
 use borrow.Author.Needs.{needs}
 use mathlib.Core.Path.{_≡_, ap}

@@ -1,4 +1,4 @@
--- `fields::field` meets its contract: field k of s is field `left` of what is left of it.
+-- `text::field` meets its contract: field k of s is field `left` of what is left of it.
 -- Assumes nothing.
 use borrow.Author.Needs.{needs}
 use mathlib.Core.Path.{_≡_, sym, ap, _∙_}

@@ -1,4 +1,4 @@
--- `fields::find` meets its contract. The invariant: what is found in all of s is found in what is left of it, i further on. Assumes nothing.
+-- `text::find` meets its contract. The invariant: what is found in all of s is found in what is left of it, i further on. Assumes nothing.
 use borrow.Author.Needs.{needs}
 use Prim.Native.Nat.{ℕ, suc, _≤_, _<_, _-_, _+_}
 use mathlib.Core.Path.{_≡_, ap}

@@ -1,4 +1,4 @@
--- `numeral::narrow` meets its contract: by the test that the number lies below 2^32.
+-- `text::narrow` meets its contract: by the test that the number lies below 2^32.
 -- Assumes nothing.
 use borrow.Author.Needs.{needs}
 use borrow.Author.Tests.{lt-ltb, le-ltb}

@@ -1,4 +1,4 @@
--- `numeral::numeral` meets its contract: the digits of s spell what those that are left spell behind v.
+-- `text::numeral` meets its contract: the digits of s spell what those that are left spell behind v.
 -- Assumes nothing.
 use borrow.Author.Needs.{needs}
 use mathlib.Core.Path.{_≡_, sym, ap, _∙_}

@@ -1,4 +1,4 @@
--- `numeral::plain` meets its contract: none, one, or more bytes.
+-- `text::plain` meets its contract: none, one, or more bytes.
 -- Assumes nothing.
 use borrow.Author.Needs.{needs}
 use mathlib.Core.Path.{_≡_, refl}

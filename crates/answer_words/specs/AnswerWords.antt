@@ -4,7 +4,8 @@ use mathlib.Core.List.{List, [], _∷_, _++_}
 use Prim.Native.Nat.{ℕ}
 use lib.Dec.{ltb}
 use lib.ListN.{length, drop, getD}
-use Rattle.answers.specs.Answers.{number, kind, numbers}
+use Rattle.answers.specs.Answers.{number}
+use Rattle.answers.specs.Outputs.{kind, numbers}
 use Rattle.commands.specs.declared.Command.{Command}
 use Rattle.semantics.specs.Call.{Call, call, listed-over}
 use Rattle.answers.specs.declared.Answer.{Answer}

@@ -5,7 +5,8 @@ use Prim.Native.Nat.{ℕ, _≤_, _<_}
 use native.Mathlib.Omega.{arith}
 use lib.ListN.{length, drop, set}
 use borrow.Author.Tests.{lt-ltb, le-ltb}
-use Rattle.answers.specs.Answers.{number, kind}
+use Rattle.answers.specs.Answers.{number}
+use Rattle.answers.specs.Outputs.{kind}
 use Rattle.semantics.specs.Call.{Call, listed-over}
 use Rattle.answers.specs.declared.Answer.{Answer}
 use Rattle.answer_words.specs.AnswerWords.{Told, answer-words, no-room, first, second, answer-in, told}

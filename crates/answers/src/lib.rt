@@ -1,6 +1,7 @@
 // The answers of Icespruce: a value and one reason, with the numbers and output words of document 01.
 ghost use mathlib.Core.Path.{_≡_};
-ghost use Rattle.answers.specs.Answers.{number, kind, answer-of};
+ghost use Rattle.answers.specs.Answers.{number, answer-of};
+ghost use Rattle.answers.specs.Outputs.{kind};
 ghost use Rattle.answers.specs.declared.Value.the-variants.{Error};
 ghost use Rattle.answers.specs.declared.Reason.the-variants.{Done};
 

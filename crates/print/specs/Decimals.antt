@@ -11,7 +11,8 @@ use lib.Dec.{ltb}
 use lib.ListN.{length, getD, drop, length-append, drop-of-length-le}
 use lib.Seq.{drop-cons}
 use Rattle.io.specs.Digits.{digits, glyph, Fewest}
-use Rattle.answers.specs.Answers.{word, numbers, number}
+use Rattle.answers.specs.Answers.{number}
+use Rattle.answers.specs.Outputs.{output-word, numbers}
 use Rattle.answers.specs.declared.Answer.{Answer}
 use Rattle.answers.specs.declared.Value.{Value}
 use Rattle.answers.specs.declared.Value.the-variants.{Ok, True, False, Error, Undefined, Pid, Grouped, Nodes, Listed}
@@ -68,7 +69,7 @@ pub spaced-next : (p q r : Sheet) (a b : List ℕ) → q ≡ put p (spaced a) �
 spaced-next p q r a b e f = put-next p q r (spaced a) (spaced b) e f ∙ ap (put p) (sym (spaced-append a b))
 
 -- a value, the words of a list, the number of a reason and a newline, one behind the other, are the line of an answer
-pub answer-put : (p q r s t : Sheet) (list : List ℕ) (a : Answer) (n : ℕ) → q ≡ put p (word (a .value) ++ spaced (numbers (a .value)))
+pub answer-put : (p q r s t : Sheet) (list : List ℕ) (a : Answer) (n : ℕ) → q ≡ put p (output-word (a .value) ++ spaced (numbers (a .value)))
     → r ≡ put q (spaced list) → n ≡ number (a .reason) → s ≡ put r (spaced (n ∷ [])) → t ≡ put s (newline ∷ []) → t ≡ put p (answer-line list a)
 unfolding answer-line
 answer-put p q r s t list a n e f g h k =
@@ -100,7 +101,7 @@ unfolding spaced decimal
 spaced-few [] = omega arith
 spaced-few (n ∷ ns) = simp length-append (omega (arith, decimal-few 19 n, spaced-few ns))
 
-word-few : (v : Value) → (length (word v) ≤ 9) × (length (numbers v) ≤ 2)
+word-few : (v : Value) → (length (output-word v) ≤ 9) × (length (numbers v) ≤ 2)
 word-few Ok = omega arith
 word-few True = omega arith
 word-few False = omega arith

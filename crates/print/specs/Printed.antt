@@ -3,7 +3,8 @@ use mathlib.Core.Bool.{cond}
 use mathlib.Core.List.{List, [], _∷_, _++_}
 use Prim.Native.Nat.{ℕ, zero, suc, _+_, _/_, _%_}
 use lib.Dec.{ltb}
-use Rattle.answers.specs.Answers.{word, numbers, number}
+use Rattle.answers.specs.Answers.{number}
+use Rattle.answers.specs.Outputs.{output-word, numbers}
 use Rattle.answers.specs.declared.Answer.{Answer}
 use Rattle.text.specs.Text.{bytes, space}
 use Rattle.text.specs.Numbers.{digit-0}
@@ -24,7 +25,7 @@ spaced (n ∷ ns) = (space ∷ decimal n) ++ spaced ns
 
 -- the line of an answer: the word of its value, the numbers of its value, the words of its list, the number of its reason
 unfoldable pub answer-line : List ℕ → Answer → List ℕ
-answer-line list a = word (a .value) ++ (spaced (numbers (a .value) ++ (list ++ (number (a .reason) ∷ []))) ++ bytes "\n")
+answer-line list a = output-word (a .value) ++ (spaced (numbers (a .value) ++ (list ++ (number (a .reason) ∷ []))) ++ bytes "\n")
 
 -- what a line that is no request prints
 abbrev pub bad-line : List ℕ

@@ -1,7 +1,7 @@
 // Bytes, numbers and answers, put one behind the other into a run that the caller lends. Where the run is full, what is left over is dropped.
 ghost use mathlib.Core.Path.{_≡_};
 ghost use mathlib.Core.List.{[], _∷_, _++_};
-ghost use Rattle.answers.specs.Answers.{word, numbers};
+ghost use Rattle.answers.specs.Outputs.{output-word, numbers};
 ghost use Rattle.print.specs.Sheets.{sheet, put};
 ghost use Rattle.print.specs.Printed.{decimal, spaced, answer-line};
 use answers::Answer;
@@ -67,7 +67,7 @@ fn put_words(out: &mut [u8], at: usize, words: &[u64]) -> usize
 
 // Puts the word of a value and its numbers.
 fn put_value(out: &mut [u8], at: usize, value: Value) -> usize
-    ensures { λ r. ⌜ sheet (now (out .exit)) r ≡ put (sheet (now (out .entry)) at) (word value ++ spaced (numbers value)) ⌝ }
+    ensures { λ r. ⌜ sheet (now (out .exit)) r ≡ put (sheet (now (out .entry)) at) (output-word value ++ spaced (numbers value)) ⌝ }
 {
     match value {
         Value::Ok => put_bytes(out, at, b"ok"),

@@ -11,7 +11,7 @@ use lib.ListN.{length}
 use borrow.Author.Tests.{eq-eqb, eqb-false, ltb-false, leb-false}
 use Rattle.nodes.specs.Sets.{node-limit, beyond}
 use Rattle.nodes.specs.Bools.{by-test}
-use Rattle.answers.specs.Answers.{kind}
+use Rattle.answers.specs.Outputs.{kind}
 use Rattle.semantics.specs.Sizes.{names-per-group, table-words}
 use Rattle.semantics.specs.State.{State}
 use Rattle.commands.specs.declared.Command.{Command}

@@ -23,7 +23,7 @@ use Rattle.semantics.specs.Groups.{found-name}
 use Rattle.semantics.specs.Changed.{regular-found}
 use Rattle.semantics.specs.Agree.{test-regular, same-state-same-table, sound-iff}
 use Rattle.published.specs.Published.{of-some, SGroup, Node, Published, those}
-use Rattle.published.specs.Seen.{seen, published, chained, seen-table}
+use Rattle.published.specs.SeenState.{seen, published, chained, seen-table, seen-sound}
 use Rattle.published.specs.GroupsSeen.{on-some, groups-seen, node-seen, nothing-there, those-seen, gathered}
 
 module _ {cap : ℕ} (a b : State) (v : Regular cap a) (w : Regular cap b) (e : published a ≡ published b) where
@@ -101,4 +101,5 @@ table-determined t u p q e =
     let a = sound-iff names-per-group t .1 p in
     let b = sound-iff names-per-group u .1 q in
     same-state-same-table names-per-group t u a b
-    (state-determined (state-of names-per-group t) (state-of names-per-group u) (test-regular names-per-group t a .0) (test-regular names-per-group u b .0) e)
+    (state-determined (state-of names-per-group t) (state-of names-per-group u) (test-regular names-per-group t a .0) (test-regular names-per-group u b .0)
+    (sym (seen-sound t p) ∙ e ∙ seen-sound u q))

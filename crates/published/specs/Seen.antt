@@ -1,15 +1,15 @@
 -- The published state of a table, by the meaning of its words, and the value and the list of words that document 01 writes for a published value.
 -- Definitions only: this file is what a reader has to believe. Assumes nothing.
 use mathlib.Core.Bool.{not, _&&_, cond}
-use mathlib.Core.Option.{none, some}
+use mathlib.Core.Option.{none, some, Option·map}
 use mathlib.Core.List.{List, [], _∷_, _++_}
 use Prim.Native.Nat.{ℕ, zero, suc, _*_, _/_, _%_}
-use lib.Dec.{eqb, ltb}
+use lib.Dec.{ltb}
 use lib.ListN.{length}
 use Rattle.nodes.specs.NodeSets.{node-limit, has, single, union}
 use Rattle.entries.specs.Registered.{half-word}
 use Rattle.semantics.specs.Sizes.{group-names, names-per-group}
-use Rattle.semantics.specs.Soundness.{size-of, hidden-of, count-of, name-of, names-of, members-of, links-of, free-of, process-of, pid-of}
+use Rattle.semantics.specs.Soundness.{size-of, hidden-of, members-of, links-of, free-of, group-named, pid-named}
 use Rattle.answers.specs.declared.Value.{Value}
 use Rattle.answers.specs.declared.Value.the-variants.{Grouped, Nodes, Listed}
 use Rattle.answers.specs.declared.Value.the-variants as W
@@ -18,18 +18,9 @@ use Rattle.published.specs.Published.{Set, Map, nobody, of-some, SGroup,
 
 -- ---- tables
 
--- the place below n whose key is x
-unfoldable pub at-place : (ℕ → ℕ) → ℕ → Map ℕ
-at-place key zero x = none
-at-place key (suc n) x = cond (eqb (key n) x) (some n) (at-place key n x)
-
--- the s_group at place g
+-- group g
 abbrev pub group-seen : List ℕ → ℕ → SGroup
-group-seen t g =
-    record {
-      nodes = has (members-of t g);
-      namespace = λ n. of-some none (λ k. some (pid-of names-per-group t g k)) (at-place (process-of names-per-group t g) (names-of t g) n);
-    }
+group-seen t g = record { nodes = has (members-of t g); namespace = pid-named names-per-group t g }
 
 -- the gr_names of ni, as the s_groups have them
 abbrev pub names-seen : ℕ → Map SGroup → GrNames
@@ -38,7 +29,7 @@ names-seen ni grs = cond (IsSGroupNode ni grs) (Names (λ s. IsSGroupSNode ni s 
 -- the published state of a table
 unfoldable pub seen-table : List ℕ → Published
 seen-table t =
-    let grs : Map SGroup = λ s. of-some none (λ g. some (group-seen t g)) (at-place (name-of t) (count-of t) s) in
+    let grs : Map SGroup = λ s. Option·map (group-seen t) (group-named t s) in
     record {
       grs = grs;
       fgs = λ ni. cond (ltb ni (size-of t)) (has (free-of t ni)) nobody;

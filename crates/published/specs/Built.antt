@@ -22,10 +22,9 @@ use Rattle.semantics.specs.Soundness.{Sound}
 use Rattle.semantics.specs.Regular.{Every, Rising, Regular-group, Met, Regular, loose}
 use Rattle.semantics.specs.Truth.{or-cases, unless}
 use Rattle.semantics.specs.FreeGroupsOfNodes.{has-free-nodes}
-use Rattle.semantics.specs.RoundTrip.{round-trip}
 use Rattle.semantics.specs.Agree.{regular-test, sound-iff}
 use Rattle.published.specs.Published.{Set, of-some, SGroup, Namespace, Node, Published, those, IsSGroupNode}
-use Rattle.published.specs.Seen.{seen, names-seen, published, set-word, chained, seen-table}
+use Rattle.published.specs.SeenState.{seen, names-seen, published, set-word, chained, seen-table, layout-seen}
 use Rattle.published.specs.WellFormed.{connected, free, Fair-namespace, WellFormed}
 use Rattle.published.specs.SomeBelow.{any-case}
 use Rattle.published.specs.Concatenated.{has-word, word-lt, word-has}
@@ -287,4 +286,4 @@ table-sound X wf = sound-iff names-per-group (layout names-per-group (built X wf
 
 pub table-seen : (X : Published) (wf : WellFormed X) → seen-table (table-of X wf) ≡ X
 unfolding table-of
-table-seen X wf = ap published (round-trip names-per-group (built X wf) (built-regular X wf)) ∙ built-seen X wf
+table-seen X wf = layout-seen (built X wf) (built-regular X wf) ∙ built-seen X wf

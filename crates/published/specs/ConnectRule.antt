@@ -20,7 +20,7 @@ use Rattle.semantics.specs.Groups.{of-found}
 use Rattle.semantics.specs.Members.{in-word}
 use Rattle.semantics.specs.FreeGroupsOfNodes.{has-free-nodes, loose-in, own-free, not-loose, free-lt}
 use Rattle.published.specs.Published.{Set, Map, _∪_, only, SGroup, Node, Published, those, with-free, IsSGroupSNode, IsSGroupNode, SameSGroup, Joined, InterConnectNodes, AddConnections}
-use Rattle.published.specs.Seen.{seen, published}
+use Rattle.published.specs.SeenState.{seen, published}
 use Rattle.published.specs.SomeBelow.{any-hit, any-case}
 use Rattle.published.specs.GroupsSeen.{those-seen, on-some, member, groups-seen, free-seen, hidden-seen, nodes-seen, members-seen}
 use Rattle.published.specs.Rewired.{interconnect-idle, interconnect-seen, join-seen}

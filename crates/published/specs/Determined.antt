@@ -1,8 +1,7 @@
 -- A regular state is determined by what is published of it, and so is a sound table. Assumes nothing.
-use mathlib.Core.Path.{_≡_, refl, sym, ap, _∙_, fun-ext}
+use mathlib.Core.Path.{_≡_, sym, ap, _∙_, fun-ext}
 use mathlib.Core.Logic.{⊎-elim}
 use mathlib.Core.Bool.{Bool, true, _&&_, false≢true, and-true, and-comm}
-use mathlib.Core.Option.{Option, none, some, Option·some-injective}
 use mathlib.Core.List.{List, [], _∷_}
 use Prim.Native.Nat.{ℕ, _≤_, _<_}
 use native.Mathlib.Omega.{arith}
@@ -13,18 +12,16 @@ use borrow.Author.Tests.{lt-ltb, le-ltb}
 use Rattle.nodes.specs.Sets.{has}
 use Rattle.nodes.specs.Bools.{by-lt, and-follows}
 use Rattle.nodes.specs.SetLaws.{has-ext, has-below}
-use Rattle.entries.specs.EntryLaws.{lookups-determine}
 use Rattle.semantics.specs.Sizes.{names-per-group, group-names}
-use Rattle.semantics.specs.State.{Group, State, find}
+use Rattle.semantics.specs.State.{State, find}
 use Rattle.semantics.specs.Table.{state-of}
 use Rattle.semantics.specs.Soundness.{Sound}
 use Rattle.semantics.specs.Regular.{Regular}
-use Rattle.semantics.specs.Groups.{found-name}
-use Rattle.semantics.specs.Changed.{regular-found}
+use Rattle.semantics.specs.KeyPlaces.{same-found}
 use Rattle.semantics.specs.Agree.{test-regular, same-state-same-table, sound-iff}
 use Rattle.published.specs.Published.{of-some, SGroup, Node, Published, those}
-use Rattle.published.specs.Seen.{seen, published, chained, seen-table}
-use Rattle.published.specs.GroupsSeen.{on-some, groups-seen, node-seen, nothing-there, those-seen, gathered}
+use Rattle.published.specs.SeenState.{seen, published, chained, seen-table, mapped, seen-sound}
+use Rattle.published.specs.GroupsSeen.{groups-seen, node-seen, those-seen, gathered}
 
 module _ {cap : ℕ} (a b : State) (v : Regular cap a) (w : Regular cap b) (e : published a ≡ published b) where
   -- a test of a node of both
@@ -67,29 +64,17 @@ module _ {cap : ℕ} (a b : State) (v : Regular cap a) (w : Regular cap b) (e : 
   unfolding published
   same-free = ext-getD 0 (a .free) (b .free) (v .free-long ∙ sym (w .free-long)) λ i l. has-ext _ _ λ j. ap (λ (X : Published). X .fgs i j) e
 
-  same-group : (s : ℕ) (g h : Group) → find s (a .groups) ≡ some g → find s (b .groups) ≡ some h → seen g ≡ seen h → g ≡ h
-  same-group s g h p q f =
-      λ k. record {
-        name = (found-name s (a .groups) g p ∙ sym (found-name s (b .groups) h q)) k;
-        members = has-ext (g .members) (h .members) (λ i. ap (λ (x : SGroup). x .nodes i) f) k;
-        names = lookups-determine 0 (g .names) (h .names) (regular-found v s g p .names-sound .names) (regular-found w s h q .names-sound .names)
-            (λ n. ap (λ (x : SGroup). x .namespace n) f) k;
-      }
-
-  same-found : (s : ℕ) → find s (a .groups) ≡ find s (b .groups)
+  same-seen : (s : ℕ) → find s (a .groups) ≡ find s (b .groups)
   unfolding published
-  same-found s = go (find s (a .groups)) refl (find s (b .groups)) refl (ap (λ (X : Published). X .grs s) e)
-    where
-      go : (o : Option Group) → find s (a .groups) ≡ o → (p : Option Group) → find s (b .groups) ≡ p → on-some seen o ≡ on-some seen p → o ≡ p
-      go none x none y q = refl
-      go none x (some h) y q = nothing-there q
-      go (some g) x none y q = nothing-there (sym q)
-      go (some g) x (some h) y q = ap some (same-group s g h x y (Option·some-injective (seen g) (seen h) q))
+  same-seen s =
+      same-found v w seen
+      (λ g h f. (has-ext (g .members) (h .members) (λ i. ap (λ (x : SGroup). x .nodes i) f), λ n. ap (λ (x : SGroup). x .namespace n) f)) s
+      (mapped seen (find s (a .groups)) ∙ ap (λ (X : Published). X .grs s) e ∙ sym (mapped seen (find s (b .groups))))
 
   same-groups : a .groups ≡ b .groups
   same-groups =
       sym (gathered cap (a .size) (a .groups) (v .rising) (v .each))
-      ∙ ap (chained group-names 0) (fun-ext (λ s. ap (of-some [] (λ g. g ∷ [])) (same-found s)))
+      ∙ ap (chained group-names 0) (fun-ext (λ s. ap (of-some [] (λ g. g ∷ [])) (same-seen s)))
       ∙ gathered cap (b .size) (b .groups) (w .rising) (w .each)
 
   pub state-determined : a ≡ b
@@ -101,4 +86,5 @@ table-determined t u p q e =
     let a = sound-iff names-per-group t .1 p in
     let b = sound-iff names-per-group u .1 q in
     same-state-same-table names-per-group t u a b
-    (state-determined (state-of names-per-group t) (state-of names-per-group u) (test-regular names-per-group t a .0) (test-regular names-per-group u b .0) e)
+    (state-determined (state-of names-per-group t) (state-of names-per-group u) (test-regular names-per-group t a .0) (test-regular names-per-group u b .0)
+    (sym (seen-sound t p) ∙ e ∙ seen-sound u q))

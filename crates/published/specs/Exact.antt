@@ -16,12 +16,11 @@ use Rattle.semantics.specs.Call.{Call, call}
 use Rattle.semantics.specs.Regular.{Regular}
 use Rattle.semantics.specs.Fits.{Fits}
 use Rattle.semantics.specs.StepsKeep.{keeps}
-use Rattle.semantics.specs.RoundTrip.{round-trip}
 use Rattle.semantics.specs.Agree.{test-regular, sound-iff}
 use Rattle.semantics.specs.Calls.{call-sound, calls-keep-sound}
 use Rattle.answers.specs.declared.Reason.{Reason}
-use Rattle.published.specs.Published.{Step, gives, transition}
-use Rattle.published.specs.Seen.{published, said, seen-table}
+use Rattle.published.specs.Published.{Published, Step, gives, transition}
+use Rattle.published.specs.SeenState.{published, said, seen-table, seen-sound, layout-seen}
 use Rattle.published.specs.Refusals.{first, tests, ruled, refusal, Answered, answer}
 use Rattle.published.specs.Follows.{Follows}
 use Rattle.published.specs.Rules.{agree}
@@ -69,9 +68,9 @@ module _ (room i : ℕ) (c : Command) (t : List ℕ) (h : Sound names-per-group 
       let st : State = state-of names-per-group t in
       let w : Regular names-per-group st = test-regular names-per-group t passes .0 in
       ap seen-call (call-sound room i c t passes)
-      ∙ ap (λ (u : State). record { state = published u; answer = step room i c st .answer; list = step room i c st .list })
-      (round-trip names-per-group (step room i c st .next) (keeps room i c st w fits))
-      ∙ exact room i c st w fits
+      ∙ ap (λ (X : Published). record { state = X; answer = step room i c st .answer; list = step room i c st .list })
+      (layout-seen (step room i c st .next) (keeps room i c st w fits))
+      ∙ exact room i c st w fits ∙ ap (answer room c i) (sym (seen-sound t h))
 
   -- no other sound table has the published state that the answer gives
   pub only-table : (u : List ℕ) → Sound names-per-group u → seen-table u ≡ answer room c i (seen-table t) .state → u ≡ call room i c t .table

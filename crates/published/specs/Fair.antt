@@ -28,7 +28,7 @@ use Rattle.semantics.specs.NamesKept.{host-found}
 use Rattle.semantics.specs.Changed.{regular-found, small-name}
 use Rattle.semantics.specs.Agree.{test-regular, sound-iff}
 use Rattle.published.specs.Published.{SGroup, Namespace, Node, IsSGroupNode}
-use Rattle.published.specs.Seen.{seen, names-seen, published, seen-table}
+use Rattle.published.specs.SeenState.{seen, names-seen, published, seen-table, seen-sound}
 use Rattle.published.specs.WellFormed.{connected, free, Fair-namespace, Fair-group, WellFormed}
 use Rattle.published.specs.SomeBelow.{any-has}
 use Rattle.published.specs.GroupsSeen.{on-some, roster-seen, groups-seen, node-seen, nothing-there, those-seen, count-groups}
@@ -143,7 +143,8 @@ module _ (st : State) (w : Regular names-per-group st) where
       of-node i nd false e = nothing-there e
 
 pub table-fair : (t : List ℕ) → Sound names-per-group t → WellFormed (seen-table t)
-table-fair t h = fair (state-of names-per-group t) (test-regular names-per-group t (sound-iff names-per-group t .1 h) .0)
+table-fair t h =
+    subst WellFormed (sym (seen-sound t h)) (fair (state-of names-per-group t) (test-regular names-per-group t (sound-iff names-per-group t .1 h) .0))
 
 -- a sound table is the one of its published state
 pub table-back : (t : List ℕ) (h : Sound names-per-group t) → table-of (seen-table t) (table-fair t h) ≡ t

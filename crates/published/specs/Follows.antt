@@ -15,7 +15,7 @@ use Rattle.answers.specs.declared.Reason.{Reason}
 use Rattle.answers.specs.declared.Reason.the-variants.{GroupUnknown, NotMember}
 use Rattle.published.specs.Published as P
 use Rattle.published.specs.Published.{of-some, SGroup, Step, gives}
-use Rattle.published.specs.Seen.{seen, published, said}
+use Rattle.published.specs.SeenState.{seen, published, said}
 use Rattle.published.specs.Refusals.{ruled}
 use Rattle.published.specs.GroupsSeen.{on-some}
 

@@ -20,7 +20,7 @@ use Rattle.semantics.specs.Regular.{Every, Rising, Regular-group}
 use Rattle.semantics.specs.Truth.{or-cases}
 use Rattle.semantics.specs.Groups.{found-name}
 use Rattle.published.specs.Published.{Set, Map, of-some, any, with-at, less-at, SGroup, Node, FreeGroups, those, IsSGroupNode}
-use Rattle.published.specs.Seen.{seen, names-seen, how-many, chained}
+use Rattle.published.specs.SeenState.{seen, names-seen, how-many, chained}
 use Rattle.published.specs.SomeBelow.{any-hit, any-is}
 use Rattle.published.specs.Concatenated.{run-at, run-all, Between, from-zero, chained-keyed, run-all-one, length-chained, in-turn, count-chained}
 

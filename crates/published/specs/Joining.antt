@@ -24,7 +24,7 @@ use Rattle.semantics.specs.Members.{in-word}
 use Rattle.semantics.specs.Changed.{regular-found, small-name}
 use Rattle.published.specs.Published as P
 use Rattle.published.specs.Published.{Set, Map, _∖_, with-at, SGroup, Namespace, NoGroup, Names, IsSGroupNode, AddSGroupS, AddSGroup, gives, joining, transition}
-use Rattle.published.specs.Seen.{seen, published, names-seen}
+use Rattle.published.specs.SeenState.{seen, published, names-seen}
 use Rattle.published.specs.SomeBelow.{any-hit, any-case, any-none, any-is}
 use Rattle.published.specs.Concatenated.{word-of}
 use Rattle.published.specs.GroupsSeen.{on-some, member, groups-seen, hidden-seen, put-seen, add-seen}

@@ -23,7 +23,7 @@ use Rattle.semantics.specs.FreeGroupsOfNodes.{loose-on-roster, loose-in, own-fr
 use Rattle.semantics.specs.Changed.{regular-found}
 use Rattle.semantics.specs.Freed.{touched-in, touched-out, regular-delete, regular-remove, regular-empty}
 use Rattle.published.specs.Published.{Set, Map, of-some, _∖_, any, with-at, less-at, SGroup, GrNames, Node, Published, those, with-gr-names, IsSGroupNode, InterConnectNodes, Joined, LessSGroupS, RemoveSGroup, left-none, leaving}
-use Rattle.published.specs.Seen.{seen, published, names-seen}
+use Rattle.published.specs.SeenState.{seen, published, names-seen}
 use Rattle.published.specs.SomeBelow.{any-hit, any-is, any-has}
 use Rattle.published.specs.GroupsSeen.{on-some, member, groups-seen, free-seen, hidden-seen, node-seen, nodes-seen, put-seen, drop-seen, members-seen}
 use Rattle.published.specs.Rewired.{interconnect-seen, join-seen}

@@ -13,7 +13,9 @@ pub mod Exact
 pub mod LowestReason
 pub mod OpeningRule
 pub mod RefusedLinks
--- ---- table and published state determine each other: one table for one state, a table for every well-formed state, and back
+-- ---- table and published state determine each other: the published state of a table is that of its state, one table for one state, a table for every
+-- well-formed state, and back
+pub mod SeenState
 pub mod Determined
 pub mod Built
 pub mod Fair

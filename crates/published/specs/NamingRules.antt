@@ -26,7 +26,7 @@ use Rattle.semantics.specs.Changed.{regular-found}
 use Rattle.published.specs.Published as P
 use Rattle.published.specs.Published.{Set, Map, of-some, any, with-at, less-at, SGroup, Namespace, GrNames, NoGroup, Names, gives, with-group, transition}
 use Rattle.published.specs.Seen as Seen
-use Rattle.published.specs.Seen.{seen, published}
+use Rattle.published.specs.SeenState.{seen, published}
 use Rattle.published.specs.Concatenated.{chained-none}
 use Rattle.published.specs.GroupsSeen.{on-some, member, groups-seen, free-seen, put-seen}
 use Rattle.published.specs.NamesSeen.{insert-seen, remove-seen, pid-seen, words-seen}

@@ -20,13 +20,12 @@ use Rattle.semantics.specs.Regular.{Regular}
 use Rattle.semantics.specs.Truth.{neither}
 use Rattle.semantics.specs.Members.{at-mapi}
 use Rattle.semantics.specs.OpenedRegular.{opened-regular}
-use Rattle.semantics.specs.RoundTrip.{round-trip}
 use Rattle.semantics.specs.Agree.{regular-test, sound-iff}
 use Rattle.answers.specs.declared.Value.the-variants.{Ok}
 use Rattle.answers.specs.declared.Reason.{Reason}
 use Rattle.answers.specs.declared.Reason.the-variants.{Done, TableLength, RosterSize, NodeUnknown}
 use Rattle.published.specs.Published.{Set, any, only, nobody, NoGroup, Names, Opening}
-use Rattle.published.specs.Seen.{published}
+use Rattle.published.specs.SeenState.{published, layout-seen}
 use Rattle.published.specs.Refusals.{first, opening-tests}
 use Rattle.published.specs.Opens.{Opens}
 use Rattle.published.specs.SomeBelow.{any-no, any-beyond}
@@ -96,7 +95,7 @@ exact-opening N hidden t small =
           no-list = refl;
           accepted = λ d. (
             sound-iff names-per-group (layout names-per-group (opened N hidden)) .0 (regular-test names-per-group (opened N hidden) (whole p q)),
-            ap published (round-trip names-per-group (opened N hidden) (whole p q)) ∙ opens N hidden (whole p q .size-high),
+            layout-seen (opened N hidden) (whole p q) ∙ opens N hidden (whole p q .size-high),
           );
           left = λ d. absurd (false≢true d);
         }

@@ -22,7 +22,7 @@ use Rattle.semantics.specs.FreeGroupsOfNodes.{own-free, free-lt}
 use Rattle.semantics.specs.Changed.{regular-found}
 use Rattle.answers.specs.declared.Value.the-variants.{Nodes}
 use Rattle.published.specs.Published.{Set, Map, of-some, any, only, SGroup, IsSGroupNode, SameSGroup, OwnSGroupNis, OwnGroupNis, OutputOwnSGroups, Nis}
-use Rattle.published.specs.Seen.{seen, published, set-word, chained, group-words, said}
+use Rattle.published.specs.SeenState.{seen, published, set-word, chained, group-words, said}
 use Rattle.published.specs.SomeBelow.{any-case, any-none}
 use Rattle.published.specs.Concatenated.{chained-none, run-all, word-of, count-has}
 use Rattle.published.specs.GroupsSeen.{on-some, member, groups-seen, in-found, unions-seen, chained-found}

@@ -32,7 +32,7 @@ use Rattle.semantics.specs.Within.{step-within}
 use Rattle.semantics.specs.Fits.{Fits}
 use Rattle.semantics.specs.Changed.{regular-found}
 use Rattle.published.specs.Published.{of-some, any, SGroup, Namespace, gives, has-pid, transition}
-use Rattle.published.specs.Seen.{seen, published, said, how-many}
+use Rattle.published.specs.SeenState.{seen, published, said, how-many}
 use Rattle.published.specs.Refusals.{Test, _when_, first, off-roster, strays, names-in, full, run-short, tests-set, tests-at, tests, ruled, refusal}
 use Rattle.published.specs.SomeBelow.{any-beyond}
 use Rattle.published.specs.GroupsSeen.{on-some, member, groups-seen, roster-seen, count-groups}

@@ -1,5 +1,5 @@
 -- What a refused lookup or send by another node does to the published state of a sound table. Assumes nothing.
-use mathlib.Core.Path.{_≡_, ap, _∙_}
+use mathlib.Core.Path.{_≡_, sym, ap, _∙_}
 use mathlib.Core.Bool.{true, false}
 use mathlib.Core.List.{List}
 use Prim.Native.Nat.{ℕ}
@@ -13,12 +13,11 @@ use Rattle.semantics.specs.Soundness.{Sound}
 use Rattle.semantics.specs.Call.{call}
 use Rattle.semantics.specs.Regular.{Regular}
 use Rattle.semantics.specs.Connected.{regular-connect}
-use Rattle.semantics.specs.RoundTrip.{round-trip}
 use Rattle.semantics.specs.Agree.{test-regular, regular-test, sound-iff}
 use Rattle.semantics.specs.Asks.{Asks}
 use Rattle.semantics.specs.Refused.{refused-links}
 use Rattle.published.specs.Published.{AddConnections}
-use Rattle.published.specs.Seen.{published, seen-table}
+use Rattle.published.specs.SeenState.{seen-table, seen-sound, layout-seen}
 use Rattle.published.specs.ConnectRule.{connects}
 
 -- A refused call of node i that asks the node j: under the reasons of the input tests every word stays; under the later ones the table is sound, and
@@ -37,6 +36,6 @@ refused-connects room i j c k t h n =
           let v : Regular names-per-group (connect i j st) = regular-connect w i j (q .1) (q .2) in
           rw (q .3) (
             sound-iff names-per-group _ .0 (regular-test names-per-group (connect i j st) v),
-            ap published (round-trip names-per-group (connect i j st) v) ∙ connects st w i j (q .1) (q .2),
+            layout-seen (connect i j st) v ∙ connects st w i j (q .1) (q .2) ∙ ap (AddConnections i j) (sym (seen-sound t h)),
           ),
     )

@@ -27,7 +27,7 @@ use Rattle.semantics.specs.Changed.{regular-found}
 use Rattle.semantics.specs.Connected.{regular-connect, size-connect}
 use Rattle.published.specs.Published as P
 use Rattle.published.specs.Published.{of-some, FindName, found-by, then-send, AddConnections, transition}
-use Rattle.published.specs.Seen.{seen, published, said, listed}
+use Rattle.published.specs.SeenState.{seen, published, said, listed}
 use Rattle.published.specs.GroupsSeen.{on-some, member, groups-seen, nothing-there}
 use Rattle.published.specs.Follows.{Follows, Agrees, by-refusal, for-one}
 use Rattle.published.specs.NamingRules.{registers, re-registers, unregisters, looks-up, lists}

@@ -1,49 +1,44 @@
--- The published state that a table's state stands for, and the value and the list of words that document 01 writes for a published value.
--- Assumes nothing.
+-- The published state of a table, by the meaning of its words, and the value and the list of words that document 01 writes for a published value.
+-- Definitions only: this file is what a reader has to believe. Assumes nothing.
 use mathlib.Core.Bool.{not, _&&_, cond}
-use mathlib.Core.Option.{none, some}
+use mathlib.Core.Option.{none, some, Option·map}
 use mathlib.Core.List.{List, [], _∷_, _++_}
 use Prim.Native.Nat.{ℕ, zero, suc, _*_, _/_, _%_}
 use lib.Dec.{ltb}
 use lib.ListN.{length}
-use Rattle.nodes.specs.NodeSets.{node-limit, has, single, union, word-at}
-use Rattle.entries.specs.Registered.{half-word, lookup}
+use Rattle.nodes.specs.NodeSets.{node-limit, has, single, union}
+use Rattle.entries.specs.Registered.{half-word}
 use Rattle.semantics.specs.Sizes.{group-names, names-per-group}
-use Rattle.semantics.specs.TableState.{Group, State, free-of, find}
-use Rattle.semantics.specs.TableRead.{state-of}
+use Rattle.semantics.specs.Soundness.{size-of, hidden-of, members-of, links-of, free-of, group-named, pid-named}
 use Rattle.answers.specs.declared.Value.{Value}
 use Rattle.answers.specs.declared.Value.the-variants.{Grouped, Nodes, Listed}
 use Rattle.answers.specs.declared.Value.the-variants as W
 use Rattle.published.specs.Published as P
-use Rattle.published.specs.Published.{Set, Map, of-some, SGroup, GrNames, NoGroup, Names, Published, IsSGroupSNode, IsSGroupNode, Nis, Nss, Snis}
+use Rattle.published.specs.Published.{Set, Map, nobody, of-some, SGroup, GrNames, NoGroup, Names, Published, IsSGroupSNode, IsSGroupNode, Nis, Nss, Snis}
 
--- ---- states
+-- ---- tables
 
--- an s_group
-abbrev pub seen : Group → SGroup
-seen g = record { nodes = has (g .members); namespace = λ n. lookup n (g .names) }
+-- group g
+abbrev pub group-seen : List ℕ → ℕ → SGroup
+group-seen t g = record { nodes = has (members-of t g); namespace = pid-named names-per-group t g }
 
 -- the gr_names of ni, as the s_groups have them
 abbrev pub names-seen : ℕ → Map SGroup → GrNames
 names-seen ni grs = cond (IsSGroupNode ni grs) (Names (λ s. IsSGroupSNode ni s grs)) NoGroup
 
--- the published state of a state
-unfoldable pub published : State → Published
-published st =
-    let grs : Map SGroup = λ s. of-some none (λ g. some (seen g)) (find s (st .groups)) in
+-- the published state of a table
+unfoldable pub seen-table : List ℕ → Published
+seen-table t =
+    let grs : Map SGroup = λ s. Option·map (group-seen t) (group-named t s) in
     record {
       grs = grs;
-      fgs = λ ni. has (free-of ni st);
-      fhs = λ ni. has (st .hidden) ni && not (IsSGroupNode ni grs);
+      fgs = λ ni. cond (ltb ni (size-of t)) (has (free-of t ni)) nobody;
+      fhs = λ ni. has (hidden-of t) ni && not (IsSGroupNode ni grs);
       nds = λ ni.
-          cond (ltb ni (st .size))
-          (some (record { hidden = has (st .hidden) ni; connections = has (word-at (st .links) ni); gr-names = names-seen ni grs }))
+          cond (ltb ni (size-of t))
+          (some (record { hidden = has (hidden-of t) ni; connections = has (links-of t ni); gr-names = names-seen ni grs }))
           none;
     }
-
--- the published state of a table
-abbrev pub seen-table : List ℕ → Published
-seen-table t = published (state-of names-per-group t)
 
 -- ---- values
 

@@ -1,26 +1,30 @@
 -- Demand 3 of document 01 and its isolation rule, over calls on tables. Assumes nothing.
-use mathlib.Core.Path.{_≡_, refl, sym, ap, _∙_, subst}
+use mathlib.Core.Path.{_≡_, refl, sym, ap, _∙_, subst, fun-ext}
 use mathlib.Core.Logic.{⊎-elim}
 use mathlib.Core.Bool.{Bool, true, false, cond}
+use mathlib.Core.Option.{Option·map}
 use mathlib.Core.List.{List, [], _∷_, List·Memᴰ, List·Memᴰ·head, List·Memᴰ·tail}
 use Prim.Native.Nat.{ℕ, suc, _+_, _≤_}
 use native.Mathlib.Omega.{arith}
 use lib.ListN.{length}
 use Rattle.nodes.specs.Bools.{by-test}
 use Rattle.semantics.specs.Sizes.{group-limit, names-per-group}
-use Rattle.semantics.specs.State.{State}
+use Rattle.entries.specs.Entries.{lookup}
+use Rattle.semantics.specs.State.{Group, State, find}
 use Rattle.semantics.specs.GroupCommands.{within}
 use Rattle.answers.specs.Answers.{answer-of}
 use Rattle.semantics.specs.Steps.{creates}
 use Rattle.semantics.specs.Table.{sections, layout, state-of}
-use Rattle.semantics.specs.Soundness.{Sound, size-of, count-of}
+use Rattle.semantics.specs.Soundness.{Sound, size-of, count-of, members-of, pid-named}
 use Rattle.semantics.specs.Test.{sound}
 use Rattle.semantics.specs.Call.{Call}
 use Rattle.semantics.specs.Regular.{Regular}
 use Rattle.semantics.specs.StepsKeep.{keeps}
+use Rattle.semantics.specs.ReadOff.{state-means}
+use Rattle.semantics.specs.KeyPlaces.{pid-is, group-is, same-found}
 use Rattle.semantics.specs.Agree.{test-regular, sound-iff}
 use Rattle.semantics.specs.Mixes.{Turn, of, Mix, Disjoint, All-lines, Each-once, whole, Agree}
-use Rattle.semantics.specs.Lines.{Said, Line, key, Same-group, Line-fits, group-in, said-by-call, call-move, call-say, news, all-news}
+use Rattle.semantics.specs.Lines.{Said, Line, key, Same-group, Line-fits, Group-data, group-in, said-by-call, call-move, call-say, news, all-news}
 use Rattle.semantics.specs.LineSteps.{step-move, step-say}
 use Rattle.semantics.specs.Mixing.{of-head, of-tail, whole-mix, mixing, agree-through}
 use Rattle.semantics.specs.Swap.{isolation}
@@ -124,11 +128,26 @@ demand-3-base scripts apart fit old m mix order each t =
 
 -- ---- who may feel what
 
+-- what a table has of an s_group of its state
+abbrev group-data : Group → Group-data
+group-data g = record { members = g .members; names = λ n. lookup n (g .names) }
+
+module _ (t : List ℕ) (h : Sound names-per-group t) where
+  regular : Regular names-per-group (state-of names-per-group t)
+  regular = test-regular names-per-group t (sound-iff names-per-group t .1 h) .0
+
+  data-is : (s : ℕ) → group-in s t ≡ Option·map group-data (find s (state-of names-per-group t .groups))
+  data-is =
+      group-is h (state-means h) (λ g. record { members = members-of t g; names = pid-named names-per-group t g }) group-data
+      (λ g l i. record { members = state-means h .members g l i; names = fun-ext (pid-is h (state-means h) g l) i })
+
 -- On sound tables of one roster size, what the caller of a line hears, answer and list, depends on the line and on its own s_group alone
 pub isolated : (l : Line) → creates (l .command) ≡ false → (t u : List ℕ) → Sound names-per-group t → Sound names-per-group u
     → size-of t ≡ size-of u → group-in (key l) t ≡ group-in (key l) u → call-say l t ≡ call-say l u
 unfolding state-of
 isolated l old t u p q n g =
     ap said-by-call (call-sound (l .room) (l .caller) (within (l .command)) t (sound-iff names-per-group t .1 p))
-    ∙ isolation l (state-of names-per-group t) (state-of names-per-group u) old n g
+    ∙ isolation l (state-of names-per-group t) (state-of names-per-group u) old n
+    (same-found (regular t p) (regular u q) group-data
+    (λ x y e. (ap (λ (k : Group-data). k .members) e, λ m. ap (λ (k : Group-data). k .names m) e)) (key l) (sym (data-is t p (key l)) ∙ g ∙ data-is u q (key l)))
     ∙ sym (ap said-by-call (call-sound (l .room) (l .caller) (within (l .command)) u (sound-iff names-per-group u .1 q)))

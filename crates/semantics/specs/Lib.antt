@@ -8,16 +8,15 @@ pub mod Ranges
 pub mod Fits
 pub mod GroupCommands
 pub mod Asks
--- ---- a table (believed): the state that it stands for, as a record and read from its words; soundness, clause by clause
-pub mod TableState
-pub mod TableRead
+-- ---- a table (believed): what its words mean; soundness, clause by clause
 pub mod Soundness
 -- ---- a call (believed): length, soundness, step; opening; the run for a list
 pub mod Call
 -- ---- mixes of scripts (believed): scripts, mixes and orders, over any machine; script lines and what their callers hear
 pub mod Mixes
 pub mod Lines
--- ---- the steps that a call takes: changes of a state, the fifteen commands and opening on it, the words of a state, the test that computes
+-- ---- the steps that a call takes: the state of a table and its changes, the fifteen commands and opening on it, the words of a state and the state
+-- of words, the test that computes
 pub mod State
 pub mod Steps
 pub mod Within
@@ -54,10 +53,11 @@ pub mod WordByWord
 pub mod Places
 pub mod EntryPlaces
 pub mod OneGroup
--- ---- words and state determine each other, and test, clauses and invariant agree
+-- ---- words and state determine each other, s_groups and pids by name in both, and test, clauses and invariant agree
 pub mod RoundTrip
 pub mod ReadOff
 pub mod WordsMeaning
+pub mod KeyPlaces
 pub mod TestLaws
 pub mod StateTest
 pub mod ClausesHold

@@ -2,15 +2,14 @@
 -- Definitions only. Assumes nothing.
 use mathlib.Core.Path.{_≡_}
 use mathlib.Core.Bool.{false, cond}
-use mathlib.Core.Option.{Option}
+use mathlib.Core.Option.{Option, Option·map}
 use mathlib.Core.List.{List, [], _∷_}
 use Prim.Native.Nat.{ℕ, _+_}
 use Rattle.semantics.specs.Sizes.{names-per-group}
 use Rattle.semantics.specs.Ranges.{bad-group}
-use Rattle.semantics.specs.TableState.{Group, find}
 use Rattle.semantics.specs.GroupCommands.{GroupCommand, within, target, creates}
 use Rattle.semantics.specs.Fits.{Fits}
-use Rattle.semantics.specs.TableRead.{state-of}
+use Rattle.semantics.specs.Soundness.{members-of, group-named, pid-named}
 use Rattle.semantics.specs.Call.{Call, call}
 use Rattle.answers.specs.declared.Answer.{Answer}
 
@@ -55,9 +54,14 @@ call-move l t = call-of l t .table
 abbrev pub call-say : Line → List ℕ → Said
 call-say l t = said-by-call (call-of l t)
 
--- the s_group of the name s in a table: its members and names, or its absence
-abbrev pub group-in : ℕ → List ℕ → Option Group
-group-in s t = find s (state-of names-per-group t .groups)
+-- an s_group: the set of its members, and the pid under each process name
+pub record Group-data : Type 0 where
+  pub members : ℕ
+  pub names : ℕ → Option ℕ
+
+-- the s_group of the name s in a table, or its absence
+abbrev pub group-in : ℕ → List ℕ → Option Group-data
+group-in s t = Option·map (λ g. record { members = members-of t g; names = pid-named names-per-group t g }) (group-named t s)
 
 -- ---- new s_groups
 

@@ -1,10 +1,12 @@
--- When a table is sound, in the order and the words of document 01. cap is how many names an s_group can hold. `Test` has the same as a
--- test that computes, and `Agree` the proof that they agree. Assumes nothing.
+-- What the words of a table mean, and when a table is sound, in the order and the words of document 01. cap is how many names an s_group can hold.
+-- `Test` has soundness as a test that computes, and `Agree` the proof that they agree. Assumes nothing.
 use mathlib.Core.Path.{_≡_}
 use mathlib.Core.Logic.{_≢_}
-use mathlib.Core.Bool.{true}
+use mathlib.Core.Bool.{true, cond}
+use mathlib.Core.Option.{Option, none, some, Option·map}
 use mathlib.Core.List.{List}
-use Prim.Native.Nat.{ℕ, _+_, _*_, _/_, _%_, _≤_, _<_}
+use Prim.Native.Nat.{ℕ, zero, suc, _+_, _*_, _/_, _%_, _≤_, _<_}
+use lib.Dec.{eqb}
 use lib.ListN.{length}
 use Rattle.nodes.specs.NodeSets.{node-limit, has, word-at}
 use Rattle.entries.specs.Registered.{half-word, host}
@@ -59,6 +61,19 @@ process-of cap t g k = entry-of cap t g k / half-word
 -- the pid in it
 abbrev pub pid-of : ℕ → List ℕ → ℕ → ℕ → ℕ
 pid-of cap t g k = entry-of cap t g k % half-word
+
+-- the place below n whose key is x
+unfoldable pub at-place : (ℕ → ℕ) → ℕ → ℕ → Option ℕ
+at-place key zero x = none
+at-place key (suc n) x = cond (eqb (key n) x) (some n) (at-place key n x)
+
+-- the group of the name s
+abbrev pub group-named : List ℕ → ℕ → Option ℕ
+group-named t = at-place (name-of t) (count-of t)
+
+-- the pid that is registered under the process name n in group g
+abbrev pub pid-named : ℕ → List ℕ → ℕ → ℕ → Option ℕ
+pid-named cap t g n = Option·map (pid-of cap t g) (at-place (process-of cap t g) (names-of t g) n)
 
 -- ---- what is said of them
 

@@ -1,12 +1,26 @@
--- Changes of a state and of its list of s_groups, over the definitions of `TableState`, which are passed on. Definitions only. Assumes nothing.
+-- The state that a table stands for, as a record that computes: sets of nodes are words, a namespace is a list of entries. Assumes nothing.
 use mathlib.Core.Bool.{cond}
+use mathlib.Core.Option.{Option, none, some}
 use mathlib.Core.List.{List, [], _∷_, map}
 use Prim.Native.Nat.{ℕ}
 use lib.Dec.{eqb, ltb}
+use lib.ListN.{getD}
 use Rattle.nodes.specs.Sets.{roster, diff, union-all}
 use Rattle.entries.specs.Entries.{Entry}
-pub use Rattle.semantics.specs.TableState.{Group, State}
-unfoldable pub use Rattle.semantics.specs.TableState.{free-of, find}
+
+-- an s_group: its name, the set of its members, its namespace
+pub record Group : Type 0 where
+  pub name : ℕ
+  pub members : ℕ
+  pub names : List Entry
+
+-- the roster size, the hidden nodes, the s_groups by name; for each node its connections, and its free normal group or the empty set
+pub record State : Type 0 where
+  pub size : ℕ
+  pub hidden : ℕ
+  pub groups : List Group
+  pub links : List ℕ
+  pub free : List ℕ
 
 -- ---- a state with one thing changed
 
@@ -19,7 +33,16 @@ with-links ls st = record { size = st .size; hidden = st .hidden; groups = st .g
 abbrev pub with-free : List ℕ → State → State
 with-free fs st = record { size = st .size; hidden = st .hidden; groups = st .groups; links = st .links; free = fs }
 
+-- the free normal group of node i, or the empty set
+abbrev pub free-of : ℕ → State → ℕ
+free-of i st = getD (st .free) i 0
+
 -- ---- s_groups by name
+
+-- the s_group of the name
+unfoldable pub find : ℕ → List Group → Option Group
+find s [] = none
+find s (g ∷ gs) = cond (eqb (g .name) s) (some g) (find s gs)
 
 -- an s_group of the name s has become one of the members m and the names ns
 abbrev pub become : ℕ → ℕ → List Entry → Group → Group

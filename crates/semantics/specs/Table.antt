@@ -1,11 +1,11 @@
--- The words of a state. cap is how many names an s_group can hold. `TableRead` has the state of words, which is passed on. Definitions only. Assumes nothing.
+-- The words of a state, and the state of words. cap is how many names an s_group can hold. Assumes nothing.
 use mathlib.Core.List.{List, [], _∷_, _++_, map}
-use Prim.Native.Nat.{ℕ, _+_, _-_, _*_}
-use lib.ListN.{length, replicate}
-use Rattle.entries.specs.Entries.{words}
-use Rattle.semantics.specs.Sizes.{group-limit, group-names}
+use Prim.Native.Nat.{ℕ, _+_, _-_, _*_, _/_, _%_}
+use lib.ListN.{length, getD, take, drop, replicate}
+use Rattle.nodes.specs.Sets.{node-limit}
+use Rattle.entries.specs.Entries.{words, entries}
+use Rattle.semantics.specs.Sizes.{group-limit, group-names, contents-at, members-at, links-at, free-at, bodies-at}
 use Rattle.semantics.specs.State.{Group, State}
-unfoldable pub use Rattle.semantics.specs.TableRead.{groups-of, state-of}
 
 -- ---- the words of a state
 
@@ -41,3 +41,23 @@ sections cap st =
 -- the table of a state
 unfoldable pub layout : ℕ → State → List ℕ
 layout cap st = cat (sections cap st)
+
+-- ---- the state of words
+
+-- an s_group for each contents word and its members, with its names from the next cap words of the bodies
+abbrev pub groups-of : ℕ → List ℕ → List ℕ → List ℕ → List Group
+groups-of cap [] ms b = []
+groups-of cap (c ∷ cs) [] b = []
+groups-of cap (c ∷ cs) (m ∷ ms) b =
+    record { name = c % group-names; members = m; names = entries (c / group-names) b } ∷ groups-of cap cs ms (drop cap b)
+
+-- the state that the words stand for
+unfoldable pub state-of : ℕ → List ℕ → State
+state-of cap t =
+    record {
+      size = getD t 0 0;
+      hidden = getD t 1 0;
+      groups = groups-of cap (take (getD t 2 0) (drop contents-at t)) (take (getD t 2 0) (drop members-at t)) (drop bodies-at t);
+      links = take node-limit (drop links-at t);
+      free = take node-limit (drop free-at t);
+    }

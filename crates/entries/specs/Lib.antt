@@ -1,5 +1,5 @@
 pub mod Pass
-pub mod Registered
+pub mod Pids
 pub mod Entries
 pub mod NamespaceSound
 pub mod Raw

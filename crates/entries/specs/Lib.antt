@@ -1,3 +1,4 @@
+-- Namespaces: `Pids` has the definitions to believe, `Entries` the others, `EntryExamples` worked examples, the others laws. Assumes nothing.
 pub mod Pass
 pub mod Pids
 pub mod Entries

@@ -2,10 +2,10 @@
 use mathlib.Core.Bool.{Bool, false, _||_, cond}
 use mathlib.Core.List.{List, [], _∷_}
 use Prim.Native.Nat.{ℕ, zero, suc, _-_, _/_, _%_, _^_}
-use lib.Dec.{eqb, ltb, leb}
+use lib.Dec.{eqb, ltb}
 use lib.Bits.{bitAnd, bitOr}
 use lib.Count.{ones, trailingZeros}
-unfoldable pub use Rattle.nodes.specs.NodeSets.{node-limit, has, word-at}
+unfoldable pub use Rattle.nodes.specs.NodeSets.{node-limit, has, beyond, word-at}
 
 -- ---- membership
 
@@ -16,10 +16,6 @@ bit w i = w / 2 ^ i % 2
 -- whether w has no member
 abbrev pub empty : ℕ → Bool
 empty w = eqb w 0
-
--- whether a node of w is not among the first n
-abbrev pub beyond : ℕ → ℕ → Bool
-beyond w n = leb (2 ^ n) w
 
 -- ---- sets
 

@@ -10,12 +10,13 @@ use lib.Dec.{ltb}
 use borrow.Author.Tests.{ltb-true}
 use Rattle.answers.specs.Answers.{number, rank}
 use Rattle.semantics.specs.Test.{ascending}
+use Rattle.semantics.specs.FirstReason.{Test, first, opening-tests}
 use Rattle.commands.specs.declared.Command.{Command}
 use Rattle.commands.specs.declared.Command.the-variants.{RegisterName, ReRegisterName, UnregisterName, RegisteredNames, WhereisName, WhereisNameAt, Send, SendName, SendAt, NewSGroup, AddNodes, RemoveNodes, DeleteSGroup, OwnNodes, OwnSGroups}
 use Rattle.answers.specs.declared.Reason.{Reason}
 use Rattle.answers.specs.declared.Reason.the-variants.{Done, TableLength, RosterSize, Unsound, CallerUnknown, GroupNameRange, NameZero, NodeUnknown, GroupUnknown, NotMember, NameTaken, PidTaken, NotRegistered, NamespaceFull, CallerOutside, GroupTaken, GroupsFull, RunShort}
-use Rattle.published.specs.Published.{Set, Published}
-use Rattle.published.specs.Refusals.{Test, first, Lowest, tests, opening-tests}
+use Rattle.published.specs.Published.{Published}
+use Rattle.published.specs.Refusals.{Lowest, tests}
 
 -- ---- ranks
 
@@ -106,5 +107,5 @@ tests-ascend room OwnSGroups ni X = refl
 pub lowest : (room : ℕ) (c : Command) (ni : ℕ) (X : Published) → Lowest (tests room c ni X) (first (tests room c ni X))
 lowest room c ni X = first-lowest 0 (tests room c ni X) (tests-ascend room c ni X)
 
-pub opening-lowest : (run N : ℕ) (nis : Set) → Lowest (opening-tests run N nis) (first (opening-tests run N nis))
-opening-lowest run N nis = first-lowest 0 (opening-tests run N nis) refl
+pub opening-lowest : (run N hidden : ℕ) → Lowest (opening-tests run N hidden) (first (opening-tests run N hidden))
+opening-lowest run N hidden = first-lowest 0 (opening-tests run N hidden) refl

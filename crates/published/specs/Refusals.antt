@@ -9,14 +9,15 @@ use lib.Dec.{eqb, ltb, leb}
 use lib.ListN.{length}
 use Rattle.nodes.specs.NodeSets.{node-limit, has}
 use Rattle.entries.specs.Pids.{half-word, host}
-use Rattle.semantics.specs.Sizes.{group-limit, names-per-group, group-names, table-words}
+use Rattle.semantics.specs.Sizes.{group-limit, names-per-group, group-names}
 use Rattle.commands.specs.declared.Command.{Command}
 use Rattle.commands.specs.declared.Command.the-variants.{RegisterName, ReRegisterName, UnregisterName, RegisteredNames, WhereisName, WhereisNameAt, Send, SendName, SendAt, NewSGroup, AddNodes, RemoveNodes, DeleteSGroup, OwnNodes, OwnSGroups}
 use Rattle.answers.specs.Answers.{rank, among, refuses, answer-of}
 use Rattle.semantics.specs.Ranges.{held, bad-group}
+use Rattle.semantics.specs.FirstReason.{Test, _when_, first}
 use Rattle.answers.specs.declared.Answer.{Answer}
 use Rattle.answers.specs.declared.Reason.{Reason}
-use Rattle.answers.specs.declared.Reason.the-variants.{Done, TableLength, RosterSize, CallerUnknown, GroupNameRange, NameZero, NodeUnknown, GroupUnknown, NotMember, NameTaken, PidTaken, NotRegistered, NamespaceFull, CallerOutside, GroupTaken, GroupsFull, RunShort}
+use Rattle.answers.specs.declared.Reason.the-variants.{Done, CallerUnknown, GroupNameRange, NameZero, NodeUnknown, GroupUnknown, NotMember, NameTaken, PidTaken, NotRegistered, NamespaceFull, CallerOutside, GroupTaken, GroupsFull, RunShort}
 use Rattle.published.specs.Published.{Set, of-some, any, Namespace, Published, IsSGroupSNode, has-pid, Value, False, Error, Step, gives, transition}
 use Rattle.published.specs.Seen.{how-many, said}
 
@@ -51,21 +52,6 @@ abbrev pub run-short : ℕ → Step → Bool
 run-short room q = ltb room (length (said (q .value) .1))
 
 -- ---- which reason holds
-
--- one line of 01's table, for one command
-pub record Test : Type 0 where
-  pub reason : Reason
-  pub holds : Bool
-
-infix 70 _when_
--- the reason r, and whether it holds
-abbrev pub _when_ : Reason → Bool → Test
-r when x = record { reason = r; holds = x }
-
--- the first that holds, or Done
-abbrev pub first : List Test → Reason
-first [] = Done
-first (t ∷ ts) = cond (t .holds) (t .reason) (first ts)
 
 -- r is the lowest reason of ts that holds, or Done where none does
 pub record Lowest (ts : List Test) (r : Reason) : Type 0 where
@@ -120,12 +106,6 @@ tests room (DeleteSGroup s) ni X =
     CallerUnknown when off-roster ni X ∷ GroupNameRange when bad-group s ∷ GroupUnknown when unknown s X ∷ NotMember when outsider ni s X ∷ []
 tests room OwnNodes ni X = CallerUnknown when off-roster ni X ∷ []
 tests room OwnSGroups ni X = CallerUnknown when off-roster ni X ∷ RunShort when run-short room (transition OwnSGroups ni X) ∷ []
-
--- opening N nodes, those of nis hidden, in a run of that many words
-abbrev pub opening-tests : ℕ → ℕ → Set → List Test
-opening-tests run N nis =
-    TableLength when not (eqb run (table-words names-per-group)) ∷ RosterSize when (eqb N 0 || ltb node-limit N)
-    ∷ NodeUnknown when any node-limit (λ ni. nis ni && not (ltb ni N)) ∷ []
 
 -- ---- the answer
 

@@ -1,19 +1,20 @@
 -- A call on a table: the length, soundness, then the step; a refusal before the step leaves every word. The definitions of `Given` are passed on.
 -- Assumes nothing.
-use mathlib.Core.Bool.{not, _||_, cond}
+use mathlib.Core.Bool.{not, cond}
 use mathlib.Core.List.{List, []}
 use Prim.Native.Nat.{ℕ}
-use lib.Dec.{eqb, ltb}
+use lib.Dec.{eqb}
 use lib.ListN.{length}
-use Rattle.nodes.specs.Sets.{node-limit, beyond}
 use Rattle.semantics.specs.Sizes.{names-per-group, table-words}
 use Rattle.commands.specs.declared.Command.{Command}
-use Rattle.answers.specs.Answers.{answer-of}
+use Rattle.answers.specs.Answers.{refuses, answer-of}
+use Rattle.semantics.specs.FirstReason.{first, opening-tests}
 use Rattle.semantics.specs.Steps.{Result, step, opened}
 use Rattle.semantics.specs.Table.{layout, state-of}
 use Rattle.semantics.specs.Test.{sound}
 use Rattle.answers.specs.declared.Value.the-variants.{Ok}
-use Rattle.answers.specs.declared.Reason.the-variants.{Done, TableLength, RosterSize, Unsound, NodeUnknown}
+use Rattle.answers.specs.declared.Reason.{Reason}
+use Rattle.answers.specs.declared.Reason.the-variants.{Done, TableLength, Unsound}
 pub use Rattle.semantics.specs.Given.{Call}
 unfoldable pub use Rattle.semantics.specs.Given.{refused, listed-over}
 
@@ -31,7 +32,5 @@ call room i c t =
 -- opening: N nodes, of which some are hidden
 unfoldable pub opening : ℕ → ℕ → List ℕ → Call
 opening N hidden t =
-    cond (not (eqb (length t) (table-words names-per-group))) (refused TableLength t)
-    (cond (eqb N 0 || ltb node-limit N) (refused RosterSize t)
-    (cond (beyond hidden N) (refused NodeUnknown t)
-    (record { answer = answer-of Ok Done; list = []; table = layout names-per-group (opened N hidden) })))
+    let r : Reason = first (opening-tests (length t) N hidden) in
+    cond (refuses r) (refused r t) (record { answer = answer-of Ok Done; list = []; table = layout names-per-group (opened N hidden) })

@@ -10,8 +10,9 @@ pub mod GroupCommands
 pub mod Asks
 -- ---- a table (believed): what its words mean; soundness, clause by clause
 pub mod Soundness
--- ---- a call (believed): what it gives, and the run for a list
+-- ---- a call (believed): what it gives, and the run for a list; the reason that is given, and the tests of opening
 pub mod Given
+pub mod FirstReason
 -- ---- mixes of scripts (believed): scripts, mixes and orders, over any machine; script lines and what their callers hear
 pub mod Mixes
 pub mod Lines

@@ -32,8 +32,6 @@ Same-group a b = (bad-group (key a) ≡ false) × (key a ≡ key b)
 abbrev pub Line-fits : Line → Type 0
 Line-fits l = Fits (within (l .command))
 
--- ---- on a table
-
 -- the call of a line
 abbrev pub call-of : Line → List ℕ → Call
 call-of l t = call (l .room) (l .caller) (within (l .command)) t

@@ -23,7 +23,7 @@ abbrev pub first : List Test → Reason
 first [] = Done
 first (t ∷ ts) = cond (t .holds) (t .reason) (first ts)
 
--- opening N nodes, those of the set hidden, in a run of that many words
+-- opening, in a run of so many words, N nodes, of which those of the set `hidden` are hidden
 abbrev pub opening-tests : ℕ → ℕ → ℕ → List Test
 opening-tests run N hidden =
     TableLength when not (eqb run (table-words names-per-group)) ∷ RosterSize when (eqb N 0 || ltb node-limit N)

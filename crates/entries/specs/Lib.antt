@@ -1,5 +1,6 @@
+-- Namespaces: `Pids` has the definitions to believe, `Entries` the others, `EntryExamples` worked examples, the others laws. Assumes nothing.
 pub mod Pass
-pub mod Registered
+pub mod Pids
 pub mod Entries
 pub mod NamespaceSound
 pub mod Raw

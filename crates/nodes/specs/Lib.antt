@@ -1,4 +1,4 @@
--- Sets of nodes in a word: `NodeSets` has the definitions to believe, `Sets` the others, `Examples` worked examples, the others laws. Assumes nothing.
+-- Sets of nodes in a word: `NodeSets` has the definitions to believe, `Sets` the others, `SetExamples` worked examples, the others laws. Assumes nothing.
 pub mod NodeSets
 pub mod Sets
 pub mod SetExamples

@@ -4,13 +4,13 @@ use mathlib.Core.Path.{_≡_, refl, sym, ap, _∙_}
 use mathlib.Core.Logic.{_⊎_, inl, inr, ⊎-elim}
 use mathlib.Core.Bool.{Bool, true, false, not, _&&_, _||_, true≢false, and-false, or-true, and-eq-true-iff}
 use mathlib.Core.List.{List, [], _∷_, _++_}
-use Prim.Native.Nat.{ℕ, zero, suc, _+_, _-_, _^_, _≤_, _<_, min, max}
+use Prim.Native.Nat.{ℕ, zero, suc, _+_, _-_, _*_, _^_, _≤_, _<_, min, max}
 use native.Mathlib.Nat.{mod-lt, mod-eq-of-lt}
 use native.Mathlib.Numerals.{add-one}
 use native.Mathlib.Omega.{arith}
 use lib.Dec.{eqb, ltb}
 use lib.Pow.{pow-pos}
-use lib.Bits.{and-le-l, and-le-r, and-mask, or-lt}
+use lib.Bits.{and-le-l, and-le-r, and-mask, or-lt, or-shifted}
 use lib.ListN.{length, take}
 use lib.Seq.{take-suc}
 use borrow.Author.Tests.{eq-eqb, eqb-true, ne-eqb, lt-ltb, le-ltb, le-leb, lt-leb}
@@ -211,6 +211,10 @@ union-all-take ws i l =
     sym (rw (add-one, take-suc ws i 0) (union-all-append (take i ws) (word-at ws i ∷ []) ∙ ap (union (union-all (take i ws))) (union-none (word-at ws i))))
 
 -- ---- how large a set is, as a number
+
+pub union-above : (n w : ℕ) → w < 2 ^ n → union (single n) w ≡ single n + w
+unfolding union
+union-above n w p = let e : 2 ^ n ≡ 1 * 2 ^ n = omega arith in rw e (or-shifted 1 n w p)
 
 pub union-lt : (n a b : ℕ) → a < 2 ^ n → b < 2 ^ n → union a b < 2 ^ n
 unfolding union

@@ -1,13 +1,17 @@
 -- What the code and the proofs do with sets of nodes, over the definitions of `NodeSets`, which are passed on. Definitions only. Assumes nothing.
 use mathlib.Core.Bool.{Bool, false, _||_, cond}
 use mathlib.Core.List.{List, [], _∷_}
-use Prim.Native.Nat.{ℕ, zero, suc, _-_, _^_}
+use Prim.Native.Nat.{ℕ, zero, suc, _-_, _/_, _%_, _^_}
 use lib.Dec.{eqb, ltb}
-use lib.Bits.{bitAnd}
+use lib.Bits.{bitAnd, bitOr}
 use lib.Count.{ones, trailingZeros}
-unfoldable pub use Rattle.nodes.specs.NodeSets.{node-limit, bit, has, single, union, beyond, word-at}
+unfoldable pub use Rattle.nodes.specs.NodeSets.{node-limit, has, beyond, word-at}
 
 -- ---- membership
+
+-- the binary digit i of w: 1 where i is in w, else 0
+abbrev pub bit : ℕ → ℕ → ℕ
+bit w i = w / 2 ^ i % 2
 
 -- whether w has no member
 abbrev pub empty : ℕ → Bool
@@ -15,9 +19,17 @@ empty w = eqb w 0
 
 -- ---- sets
 
+-- i alone
+abbrev pub single : ℕ → ℕ
+single i = 2 ^ i
+
 -- the first n nodes: 0 to n - 1
 abbrev pub roster : ℕ → ℕ
 roster n = 2 ^ n - 1
+
+-- the nodes that are in a or in b
+unfoldable pub union : ℕ → ℕ → ℕ
+union a b = bitOr a b
 
 -- the nodes that are in a and in b
 unfoldable pub inter : ℕ → ℕ → ℕ

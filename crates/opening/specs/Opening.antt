@@ -10,7 +10,7 @@ use lib.ListN.{length, take, drop, set, replicate, length-append, take-append-dr
 use borrow.Author.Tests.{eq-eqb, ne-eqb, lt-ltb, le-ltb}
 use Rattle.nodes.specs.Sets.{node-limit, has, single, roster, diff, beyond, with-node}
 use Rattle.nodes.specs.SetLaws.{has-diff, has-roster, none-union}
-use Rattle.semantics.specs.Sizes.{group-limit, names-per-group, head-words, free-at, bodies-at, table-words}
+use Rattle.semantics.specs.Sizes.{group-limit, names-per-group, contents-at, free-at, bodies-at, table-words}
 use Rattle.answers.specs.Answers.{answer-of}
 use Rattle.semantics.specs.Steps.{mapi, each-alone, opened}
 use Rattle.semantics.specs.Table.{cat, sections, layout}
@@ -46,7 +46,7 @@ module _ (N hidden : ℕ) (few : N ≤ node-limit) where
 -- a cleared table, part by part
 clear : List (List ℕ)
 clear =
-    replicate head-words 0 ∷ replicate group-limit 0 ∷ replicate group-limit 0 ∷ replicate node-limit 0 ∷ replicate node-limit 0
+    replicate contents-at 0 ∷ replicate group-limit 0 ∷ replicate group-limit 0 ∷ replicate node-limit 0 ∷ replicate node-limit 0
     ∷ replicate (group-limit * names-per-group) 0 ∷ []
 
 cleared : Run (sizes names-per-group) clear (replicate (table-words names-per-group) 0)

@@ -2,17 +2,17 @@
 -- Assumes nothing.
 use mathlib.Core.Path.{_≡_, refl, sym, ap, ap₂, _∙_, subst, fun-ext}
 use mathlib.Core.Logic.{_⊎_, inl, inr, ⊎-elim}
-use mathlib.Core.Bool.{Bool, true, false, _&&_, _||_, cond, and-true, and-false, and-comm, and-eq-true-iff, or-false}
+use mathlib.Core.Bool.{Bool, true, false, _&&_, _||_, cond, and-true, and-false, and-comm, or-false}
 use mathlib.Core.List.{List, [], _∷_, _++_}
 use Prim.Native.Nat.{ℕ, zero, suc, _+_, _^_, _≤_, _<_}
 use native.Mathlib.Omega.{arith}
 use native.Mathlib.Nat.{add-zero, zero-add, add-suc, suc-add}
 use lib.Dec.{eqb, ltb}
 use lib.ListN.{length, length-append}
-use borrow.Author.Tests.{eq-eqb, ne-eqb, lt-ltb, le-ltb, ltb-true}
+use borrow.Author.Tests.{eq-eqb, ne-eqb, lt-ltb, le-ltb}
 use Rattle.nodes.specs.Sets.{has, single}
 use Rattle.nodes.specs.Bools.{by-lt, by-eq, and-follows}
-use Rattle.nodes.specs.SetLaws.{has-union, has-single, has-none, has-ext, has-below, below-pow}
+use Rattle.nodes.specs.SetLaws.{has-union, has-single, has-none, has-ext, has-below, union-above}
 use Rattle.nodes.specs.Digits.{bit-lt}
 use Rattle.nodes.specs.Counts.{tally, count-tally}
 use Rattle.nodes.specs.Sets as Nodes
@@ -114,13 +114,24 @@ count-chained n a = ap (λ (j : ℕ). how-many j a) (sym (zero-add n)) ∙ count
 
 -- ---- the word of a set
 
+pub word-lt : (n : ℕ) (a : Set) → set-word n a < 2 ^ n
+unfolding set-word
+word-lt zero a = omega arith
+word-lt (suc n) a = go (word-lt n a) (a n)
+  where
+    go : set-word n a < 2 ^ n → (x : Bool) → cond x (2 ^ n + set-word n a) (set-word n a) < 2 ^ suc n
+    go h true = omega arith
+    go h false = omega arith
+
 pub has-word : (n : ℕ) (a : Set) (i : ℕ) → has (set-word n a) i ≡ ltb i n && a i
 unfolding set-word
 has-word zero a i = has-none i ∙ sym (ap (λ (x : Bool). x && a i) (le-ltb i 0 (omega arith)))
 has-word (suc n) a i = with-last (a n) ∙ ap (λ (x : Bool). (a n && eqb n i) || x) (has-word n a i) ∙ last (by-eq n i) (by-lt i n)
   where
-    with-last : (x : Bool) → has (cond x (Nodes.union (single n) (set-word n a)) (set-word n a)) i ≡ (x && eqb n i) || has (set-word n a) i
-    with-last true = has-union (single n) (set-word n a) i ∙ ap (λ (x : Bool). x || has (set-word n a) i) (has-single n i)
+    with-last : (x : Bool) → has (cond x (2 ^ n + set-word n a) (set-word n a)) i ≡ (x && eqb n i) || has (set-word n a) i
+    with-last true =
+        ap (λ (w : ℕ). has w i) (sym (union-above n (set-word n a) (word-lt n a)))
+        ∙ has-union (single n) (set-word n a) i ∙ ap (λ (x : Bool). x || has (set-word n a) i) (has-single n i)
     with-last false = refl
 
     last : (n ≡ i) ⊎ (n ≡ i → ⊥) → (i < n) ⊎ (n ≤ i) → (a n && eqb n i) || (ltb i n && a i) ≡ ltb i (suc n) && a i
@@ -128,9 +139,6 @@ has-word (suc n) a i = with-last (a n) ∙ ap (λ (x : Bool). (a n && eqb n i) |
         rw (eq-eqb n i p, le-ltb i n (omega arith), lt-ltb i (suc n) (omega arith), and-true (a n), or-false (a n)) (ap a p)
     last (inr p) (inl l) = rw (ne-eqb n i p, lt-ltb i n l, lt-ltb i (suc n) (omega arith), and-false (a n))
     last (inr p) (inr l) = rw (ne-eqb n i p, le-ltb i n l, le-ltb i (suc n) (omega arith), and-false (a n))
-
-pub word-lt : (n : ℕ) (a : Set) → set-word n a < 2 ^ n
-word-lt n a = below-pow (set-word n a) n (λ i h. ltb-true i n (and-eq-true-iff (ltb i n) (a i) .0 (sym (has-word n a i) ∙ h) .0))
 
 -- the word of a set whose members are below n has these members
 pub word-has : (n : ℕ) (a : Set) → ((i : ℕ) → a i ≡ true → i < n) → has (set-word n a) ≡ a

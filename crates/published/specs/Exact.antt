@@ -12,6 +12,7 @@ use Rattle.semantics.specs.Steps.{Result, step}
 use Rattle.semantics.specs.Table.{state-of}
 use Rattle.semantics.specs.Soundness.{Sound}
 use Rattle.semantics.specs.Test.{sound}
+use Rattle.semantics.specs.FirstReason.{first}
 use Rattle.semantics.specs.Call.{Call, call}
 use Rattle.semantics.specs.Regular.{Regular}
 use Rattle.semantics.specs.Fits.{Fits}
@@ -21,7 +22,7 @@ use Rattle.semantics.specs.Calls.{call-sound, calls-keep-sound}
 use Rattle.answers.specs.declared.Reason.{Reason}
 use Rattle.published.specs.Published.{Published, Step, gives, transition}
 use Rattle.published.specs.SeenState.{published, said, seen-table, seen-sound, layout-seen}
-use Rattle.published.specs.Refusals.{first, tests, ruled, refusal, Answered, answer}
+use Rattle.published.specs.Refusals.{tests, ruled, refusal, Answered, answer}
 use Rattle.published.specs.Follows.{Follows}
 use Rattle.published.specs.Rules.{agree}
 use Rattle.published.specs.Reasons.{Because, because}

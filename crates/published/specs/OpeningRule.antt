@@ -3,7 +3,7 @@ use mathlib.Core.Path.{_≡_, refl, sym, ap, ap₂, _∙_, fun-ext}
 use mathlib.Core.Bool.{Bool, true, false, not, _&&_, _||_, cond, and-true, true≢false, false≢true}
 use mathlib.Core.Option.{none, some}
 use mathlib.Core.List.{List, []}
-use Prim.Native.Nat.{ℕ, zero, suc, _^_, _≤_, _<_}
+use Prim.Native.Nat.{ℕ, zero, suc, _^_, _≤_}
 use native.Mathlib.Omega.{arith}
 use lib.Dec.{eqb, ltb}
 use lib.ListN.{length, getD, replicate, length-replicate}
@@ -15,6 +15,7 @@ use Rattle.semantics.specs.State.{find}
 use Rattle.answers.specs.Answers.{refuses, answer-of}
 use Rattle.semantics.specs.Steps.{opened}
 use Rattle.semantics.specs.Table.{layout}
+use Rattle.semantics.specs.FirstReason.{first, opening-tests}
 use Rattle.semantics.specs.Call.{refused, opening}
 use Rattle.semantics.specs.Regular.{Regular}
 use Rattle.semantics.specs.Truth.{neither}
@@ -26,9 +27,8 @@ use Rattle.answers.specs.declared.Reason.{Reason}
 use Rattle.answers.specs.declared.Reason.the-variants.{Done, TableLength, RosterSize, NodeUnknown}
 use Rattle.published.specs.Published.{Set, any, only, nobody, NoGroup, Names, Opening}
 use Rattle.published.specs.SeenState.{published, layout-seen}
-use Rattle.published.specs.Refusals.{first, opening-tests}
 use Rattle.published.specs.Opens.{Opens}
-use Rattle.published.specs.SomeBelow.{any-no, any-beyond}
+use Rattle.published.specs.SomeBelow.{any-no}
 
 zeros : (n i : ℕ) → _≡_ {A = ℕ} (getD (replicate n 0) i 0) 0
 zeros zero i = refl
@@ -59,12 +59,9 @@ opens N hidden high =
 
 -- ---- on tables
 
-pub exact-opening : (N hidden : ℕ) (t : List ℕ) → hidden < 2 ^ node-limit
-    → Opens (first (opening-tests (length t) N (has hidden))) N hidden t (opening N hidden t)
+pub exact-opening : (N hidden : ℕ) (t : List ℕ) → Opens (first (opening-tests (length t) N hidden)) N hidden t (opening N hidden t)
 unfolding opening opened
-exact-opening N hidden t small =
-    rw (any-beyond hidden N small)
-    (go (eqb (length t) (table-words names-per-group)) (eqb N 0 || ltb node-limit N) refl (beyond hidden N) refl)
+exact-opening N hidden t = go (eqb (length t) (table-words names-per-group)) (eqb N 0 || ltb node-limit N) refl (beyond hidden N) refl
   where
     -- a reason that refuses
     turned-down : (r : Reason) → refuses r ≡ true → Opens r N hidden t (refused r t)
@@ -83,9 +80,9 @@ exact-opening N hidden t small =
         opened-regular N hidden (omega arith) (ltb-false node-limit N (p .1)) (leb-false (2 ^ N) hidden z) names-per-group
 
     go : (x y : Bool) → (eqb N 0 || ltb node-limit N) ≡ y → (z : Bool) → beyond hidden N ≡ z
-        → Opens (cond (not x) TableLength (cond y RosterSize (cond z NodeUnknown Done))) N hidden t
-        (cond (not x) (refused TableLength t) (cond y (refused RosterSize t) (cond z (refused NodeUnknown t)
-        (record { answer = answer-of Ok Done; list = []; table = layout names-per-group (opened N hidden) }))))
+        → let r : Reason = cond (not x) TableLength (cond y RosterSize (cond z NodeUnknown Done)) in
+        Opens r N hidden t
+        (cond (refuses r) (refused r t) (record { answer = answer-of Ok Done; list = []; table = layout names-per-group (opened N hidden) }))
     go false y p z q = turned-down TableLength refl
     go true true p z q = turned-down RosterSize refl
     go true false p true q = turned-down NodeUnknown refl

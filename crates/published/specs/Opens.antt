@@ -9,7 +9,7 @@ use Rattle.answers.specs.declared.Value.the-variants.{Ok, Error}
 use Rattle.answers.specs.declared.Reason.{Reason}
 use Rattle.semantics.specs.Sizes.{names-per-group}
 use Rattle.semantics.specs.Soundness.{Sound}
-use Rattle.semantics.specs.Call.{Call}
+use Rattle.semantics.specs.Given.{Call}
 use Rattle.published.specs.Published.{Opening}
 use Rattle.published.specs.Seen.{seen-table}
 

@@ -6,7 +6,7 @@ use mathlib.Core.Option.{Option, none, some}
 use Prim.Native.Nat.{ℕ, zero, suc}
 use lib.Dec.{eqb, ltb}
 use Rattle.nodes.specs.NodeSets.{node-limit, has}
-use Rattle.entries.specs.Registered.{half-word, host}
+use Rattle.entries.specs.Pids.{half-word, host}
 use Rattle.semantics.specs.Sizes.{group-names}
 use Rattle.commands.specs.declared.Command.{Command}
 use Rattle.commands.specs.declared.Command.the-variants.{RegisterName, ReRegisterName, UnregisterName, RegisteredNames, WhereisName, WhereisNameAt, Send, SendName, SendAt, NewSGroup, AddNodes, DeleteSGroup, OwnNodes, OwnSGroups}

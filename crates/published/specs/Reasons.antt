@@ -21,6 +21,7 @@ use Rattle.commands.specs.declared.Command.{Command}
 use Rattle.commands.specs.declared.Command.the-variants.{RegisterName, ReRegisterName, UnregisterName, RegisteredNames, WhereisName, WhereisNameAt, Send, SendName, SendAt, NewSGroup, AddNodes, RemoveNodes, DeleteSGroup, OwnNodes, OwnSGroups}
 use Rattle.semantics.specs.GroupCommands.{GroupCommand, register-name, re-register-name, unregister-name, whereis-name, registered-names, add-nodes, new-s-group, within}
 use Rattle.semantics.specs.Ranges.{held, bad-group}
+use Rattle.semantics.specs.FirstReason.{Test, _when_, first}
 use Rattle.semantics.specs.Steps.{Result, Outcome, Effect, error, say, done, settle, read-only, inside, outcome, group-step, apply, for-member, tell, ask, look-in, look-reason, own-list, rule, step}
 use Rattle.answers.specs.declared.Value.{Value}
 use Rattle.answers.specs.declared.Value.the-variants.{True, False, Error, Undefined, Listed}
@@ -33,7 +34,7 @@ use Rattle.semantics.specs.Fits.{Fits}
 use Rattle.semantics.specs.Changed.{regular-found}
 use Rattle.published.specs.Published.{of-some, any, SGroup, Namespace, gives, has-pid, transition}
 use Rattle.published.specs.SeenState.{seen, published, said, how-many}
-use Rattle.published.specs.Refusals.{Test, _when_, first, off-roster, strays, names-in, full, run-short, tests-set, tests-at, tests, ruled, refusal}
+use Rattle.published.specs.Refusals.{off-roster, strays, names-in, full, run-short, tests-set, tests-at, tests, ruled, refusal}
 use Rattle.published.specs.SomeBelow.{any-beyond}
 use Rattle.published.specs.GroupsSeen.{on-some, member, groups-seen, roster-seen, count-groups}
 use Rattle.published.specs.NamesSeen.{pid-seen, count-names, words-seen}

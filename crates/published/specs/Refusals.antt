@@ -1,23 +1,23 @@
--- The reasons of document 01 over the published state, and the whole answer: the lowest reason that holds, then 01's refusal or 000's rule.
--- For a command reasons 1 and 3 stand before, where a table is read as a state. Assumes nothing.
+-- 01's reasons over the published state, and the whole answer: the lowest reason that holds, then 01's refusal or 000's rule. Assumes nothing.
 use mathlib.Core.Path.{_≡_}
 use mathlib.Core.Logic.{_⊎_}
 use mathlib.Core.Bool.{Bool, true, false, not, _&&_, _||_, cond}
 use mathlib.Core.Option.{none}
-use mathlib.Core.List.{List, [], _∷_}
+use mathlib.Core.List.{List, [], _∷_, List·Memᴰ}
 use Prim.Native.Nat.{ℕ, _≤_}
 use lib.Dec.{eqb, ltb, leb}
 use lib.ListN.{length}
 use Rattle.nodes.specs.NodeSets.{node-limit, has}
-use Rattle.entries.specs.Registered.{half-word, host}
-use Rattle.semantics.specs.Sizes.{group-limit, names-per-group, group-names, table-words}
+use Rattle.entries.specs.Pids.{half-word, host}
+use Rattle.semantics.specs.Sizes.{group-limit, names-per-group, group-names}
 use Rattle.commands.specs.declared.Command.{Command}
 use Rattle.commands.specs.declared.Command.the-variants.{RegisterName, ReRegisterName, UnregisterName, RegisteredNames, WhereisName, WhereisNameAt, Send, SendName, SendAt, NewSGroup, AddNodes, RemoveNodes, DeleteSGroup, OwnNodes, OwnSGroups}
 use Rattle.answers.specs.Answers.{rank, among, refuses, answer-of}
 use Rattle.semantics.specs.Ranges.{held, bad-group}
+use Rattle.semantics.specs.FirstReason.{Test, _when_, first}
 use Rattle.answers.specs.declared.Answer.{Answer}
 use Rattle.answers.specs.declared.Reason.{Reason}
-use Rattle.answers.specs.declared.Reason.the-variants.{Done, TableLength, RosterSize, CallerUnknown, GroupNameRange, NameZero, NodeUnknown, GroupUnknown, NotMember, NameTaken, PidTaken, NotRegistered, NamespaceFull, CallerOutside, GroupTaken, GroupsFull, RunShort}
+use Rattle.answers.specs.declared.Reason.the-variants.{Done, CallerUnknown, GroupNameRange, NameZero, NodeUnknown, GroupUnknown, NotMember, NameTaken, PidTaken, NotRegistered, NamespaceFull, CallerOutside, GroupTaken, GroupsFull, RunShort}
 use Rattle.published.specs.Published.{Set, of-some, any, Namespace, Published, IsSGroupSNode, has-pid, Value, False, Error, Step, gives, transition}
 use Rattle.published.specs.Seen.{how-many, said}
 
@@ -53,30 +53,10 @@ run-short room q = ltb room (length (said (q .value) .1))
 
 -- ---- which reason holds
 
--- one line of 01's table, for one command
-pub record Test : Type 0 where
-  pub reason : Reason
-  pub holds : Bool
-
-infix 70 _when_
--- the reason r, and whether it holds
-abbrev pub _when_ : Reason → Bool → Test
-r when x = record { reason = r; holds = x }
-
--- the first that holds, or Done
-abbrev pub first : List Test → Reason
-first [] = Done
-first (t ∷ ts) = cond (t .holds) (t .reason) (first ts)
-
--- a test of the list
-abbrev pub In : Test → List Test → Type 0
-In t [] = ⊥
-In t (u ∷ us) = (t ≡ u) ⊎ In t us
-
 -- r is the lowest reason of ts that holds, or Done where none does
 pub record Lowest (ts : List Test) (r : Reason) : Type 0 where
-  pub given : ((r ≡ Done) × ((t : Test) → In t ts → t .holds ≡ false)) ⊎ ((t : Test) × In t ts × (t .holds ≡ true) × (r ≡ t .reason))
-  pub least : (t : Test) → In t ts → t .holds ≡ true → rank r ≤ rank (t .reason)
+  pub given : ((r ≡ Done) × ((t : Test) → List·Memᴰ t ts → t .holds ≡ false)) ⊎ ((t : Test) × List·Memᴰ t ts × (t .holds ≡ true) × (r ≡ t .reason))
+  pub least : (t : Test) → List·Memᴰ t ts → t .holds ≡ true → rank r ≤ rank (t .reason)
 
 -- unregister_name, whereis_name/2 and send/3
 abbrev pub tests-name : ℕ → ℕ → ℕ → Published → List Test
@@ -97,7 +77,7 @@ tests-set s set ni X =
     CallerUnknown when off-roster ni X ∷ GroupNameRange when bad-group s ∷ NodeUnknown when strays (has set) X
     ∷ GroupUnknown when unknown s X ∷ NotMember when outsider ni s X ∷ []
 
--- the reasons that a command can have, by number; room is how many words the run for a list has
+-- the reasons that a command can have, by number, after 1 and 3, which are about the table; room is how many words the run for a list has
 unfoldable pub tests : ℕ → Command → ℕ → Published → List Test
 tests room (RegisterName s n p) ni X =
     CallerUnknown when off-roster ni X ∷ GroupNameRange when bad-group s ∷ NameZero when eqb n 0 ∷ NodeUnknown when off-roster (host p) X
@@ -126,12 +106,6 @@ tests room (DeleteSGroup s) ni X =
     CallerUnknown when off-roster ni X ∷ GroupNameRange when bad-group s ∷ GroupUnknown when unknown s X ∷ NotMember when outsider ni s X ∷ []
 tests room OwnNodes ni X = CallerUnknown when off-roster ni X ∷ []
 tests room OwnSGroups ni X = CallerUnknown when off-roster ni X ∷ RunShort when run-short room (transition OwnSGroups ni X) ∷ []
-
--- opening N nodes, those of nis hidden, in a run of that many words
-abbrev pub opening-tests : ℕ → ℕ → Set → List Test
-opening-tests run N nis =
-    TableLength when not (eqb run (table-words names-per-group)) ∷ RosterSize when (eqb N 0 || ltb node-limit N)
-    ∷ NodeUnknown when any node-limit (λ ni. nis ni && not (ltb ni N)) ∷ []
 
 -- ---- the answer
 

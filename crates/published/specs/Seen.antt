@@ -1,13 +1,12 @@
--- The published state of a table, by the meaning of its words, and the value and the list of words that document 01 writes for a published value.
--- Definitions only: this file is what a reader has to believe. Assumes nothing.
+-- The published state of a table, by the meaning of its words, and the value and the list of words that 01 writes for a published value. Assumes nothing.
 use mathlib.Core.Bool.{not, _&&_, cond}
 use mathlib.Core.Option.{none, some, Option·map}
 use mathlib.Core.List.{List, [], _∷_, _++_}
-use Prim.Native.Nat.{ℕ, zero, suc, _*_, _/_, _%_}
+use Prim.Native.Nat.{ℕ, zero, suc, _+_, _*_, _/_, _%_, _^_}
 use lib.Dec.{ltb}
 use lib.ListN.{length}
-use Rattle.nodes.specs.NodeSets.{node-limit, has, single, union}
-use Rattle.entries.specs.Registered.{half-word}
+use Rattle.nodes.specs.NodeSets.{node-limit, has}
+use Rattle.entries.specs.Pids.{half-word}
 use Rattle.semantics.specs.Sizes.{group-names, names-per-group}
 use Rattle.semantics.specs.Soundness.{size-of, hidden-of, members-of, links-of, free-of, group-named, pid-named}
 use Rattle.answers.specs.declared.Value.{Value}
@@ -45,7 +44,7 @@ seen-table t =
 -- the nodes of a below n as a word
 unfoldable pub set-word : ℕ → Set → ℕ
 set-word zero a = 0
-set-word (suc n) a = cond (a n) (union (single n) (set-word n a)) (set-word n a)
+set-word (suc n) a = cond (a n) (2 ^ n + set-word n a) (set-word n a)
 
 -- how many numbers below n are in a
 unfoldable pub how-many : ℕ → Set → ℕ

@@ -1,5 +1,4 @@
--- Which published states there are: the property and the assumptions of document 000 (5.1), the ranges of document 01, and what 01 says of
--- connections. Assumes nothing.
+-- Which published states there are: 000's property and assumptions (5.1), 01's ranges, and what 01 says of connections. Assumes nothing.
 use mathlib.Core.Path.{_≡_}
 use mathlib.Core.Logic.{_≢_}
 use mathlib.Core.Bool.{Bool, true, false, not, _&&_, _||_, cond}
@@ -7,7 +6,7 @@ use mathlib.Core.Option.{some}
 use Prim.Native.Nat.{ℕ, _≤_, _<_}
 use lib.Dec.{eqb, ltb}
 use Rattle.nodes.specs.NodeSets.{node-limit}
-use Rattle.entries.specs.Registered.{half-word, host}
+use Rattle.entries.specs.Pids.{half-word, host}
 use Rattle.semantics.specs.Sizes.{group-limit, names-per-group, group-names}
 use Rattle.semantics.specs.Ranges.{held}
 use Rattle.published.specs.Published.{Set, _∖_, any, Namespace, SGroup, Node, Published, those, IsSGroupNode}

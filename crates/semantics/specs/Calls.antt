@@ -15,7 +15,7 @@ use Rattle.answers.specs.Outputs.{kind}
 use Rattle.semantics.specs.Sizes.{names-per-group, table-words}
 use Rattle.semantics.specs.State.{State}
 use Rattle.commands.specs.declared.Command.{Command}
-use Rattle.answers.specs.Answers.{answer-of}
+use Rattle.answers.specs.Answers.{refuses, answer-of}
 use Rattle.semantics.specs.Steps.{step, opened}
 use Rattle.semantics.specs.Table.{layout, state-of}
 use Rattle.semantics.specs.Soundness.{Sound}
@@ -71,22 +71,26 @@ calls-keep-sound room i c t f s =
     keeps room i c (state-of names-per-group t) (test-regular names-per-group t e .0) f in
     rw (call-sound room i c t e) (regular-sound (step room i c (state-of names-per-group t) .next) w)
 
-by-case : (P : Call → Type 0) (x : Bool) {c d : Call} → (x ≡ true → P c) → (x ≡ false → P d) → P (cond x c d)
-by-case P true f g = f refl
-by-case P false f g = g refl
-
 -- an opening is refused and changes nothing, or gives the table of a regular state
 opening-cases : (N hidden : ℕ) (t : List ℕ) (P : Call → Type 0) → ((r : Reason) → P (refused r t))
     → (Regular names-per-group (opened N hidden) → P (record { answer = answer-of Ok Done; list = []; table = layout names-per-group (opened N hidden) }))
     → P (opening N hidden t)
 unfolding opening
 opening-cases N hidden t P refuse accept =
-    by-case P (not (eqb (length t) (table-words names-per-group))) (λ a. refuse TableLength) λ a.
-    by-case P (eqb N 0 || ltb node-limit N) (λ b. refuse RosterSize) λ b.
-    by-case P (beyond hidden N) (λ c. refuse NodeUnknown) λ c.
+    go (not (eqb (length t) (table-words names-per-group))) (eqb N 0 || ltb node-limit N) (beyond hidden N) λ b c.
     let n = neither (eqb N 0) (ltb node-limit N) b in
     let low : 1 ≤ N = omega (arith, eqb-false N 0 (n .0)) in
     accept (opened-regular N hidden low (ltb-false node-limit N (n .1)) (leb-false (2 ^ N) hidden c) names-per-group)
+  where
+    given : Call
+    given = record { answer = answer-of Ok Done; list = []; table = layout names-per-group (opened N hidden) }
+
+    go : (x y z : Bool) → (y ≡ false → z ≡ false → P given)
+        → let r : Reason = cond x TableLength (cond y RosterSize (cond z NodeUnknown Done)) in P (cond (refuses r) (refused r t) given)
+    go true y z f = refuse TableLength
+    go false true z f = refuse RosterSize
+    go false false true f = refuse NodeUnknown
+    go false false false f = f refl refl
 
 -- an accepted opening gives a sound table
 pub opening-gives-sound : (N hidden : ℕ) (t : List ℕ) → opening N hidden t .answer ≡ answer-of Ok Done → Sound names-per-group (opening N hidden t .table)

@@ -24,8 +24,10 @@ use Rattle.semantics.specs.ReadOff.{state-means}
 use Rattle.semantics.specs.KeyPlaces.{pid-is, group-is, same-found}
 use Rattle.semantics.specs.Agree.{test-regular, sound-iff}
 use Rattle.semantics.specs.Mixes.{Turn, of, Mix, Disjoint, All-lines, Each-once, whole, Agree}
-use Rattle.semantics.specs.Lines.{Said, Line, key, Same-group, Line-fits, Group-data, group-in, said-by-call, call-move, call-say, news, all-news}
-use Rattle.semantics.specs.LineSteps.{step-move, step-say}
+use Rattle.semantics.specs.Lines.{Said, Line, key, Same-group, Line-fits, call-move, call-say}
+use Rattle.semantics.specs.NewLines.{news, all-news}
+use Rattle.semantics.specs.GroupData.{Group-data, group-in}
+use Rattle.semantics.specs.LineSteps.{said-by-call, step-move, step-say}
 use Rattle.semantics.specs.Mixing.{of-head, of-tail, whole-mix, mixing, agree-through}
 use Rattle.semantics.specs.Swap.{isolation}
 use Rattle.semantics.specs.MixedStates.{mixed}

@@ -14,7 +14,8 @@ use Rattle.semantics.specs.Steps.{name-words}
 use Rattle.semantics.specs.Table.{pad, layout}
 use Rattle.semantics.specs.Test.{sound}
 use Rattle.semantics.specs.Call.{refused, call, opening}
-use Rattle.semantics.specs.Lines.{Said, said-by-call}
+use Rattle.semantics.specs.Lines.{Said}
+use Rattle.semantics.specs.LineSteps.{said-by-call}
 use Rattle.semantics.specs.Marked.{_says_, calls, session, claim}
 use Rattle.semantics.specs.Compute.{computing}
 use Rattle.answers.specs.declared.Value.{Value}

@@ -1,8 +1,7 @@
--- When the arguments of a command fit the words that document 01 gives them: a set has 64 binary digits, any other number 32.
--- Assumes nothing.
+-- When the arguments of a command fit the words that document 01 gives them: a set has 64 binary digits, any other number 32. Assumes nothing.
 use Prim.Native.Nat.{ℕ, _^_, _<_}
 use Rattle.nodes.specs.NodeSets.{node-limit}
-use Rattle.entries.specs.Registered.{half-word}
+use Rattle.entries.specs.Pids.{half-word}
 use Rattle.commands.specs.declared.Command.{Command}
 use Rattle.commands.specs.declared.Command.the-variants.{RegisterName, ReRegisterName, UnregisterName, RegisteredNames, WhereisName, WhereisNameAt, Send, SendName, SendAt, NewSGroup, AddNodes, RemoveNodes, DeleteSGroup, OwnNodes, OwnSGroups}
 

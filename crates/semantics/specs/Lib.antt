@@ -10,18 +10,20 @@ pub mod GroupCommands
 pub mod Asks
 -- ---- a table (believed): what its words mean; soundness, clause by clause
 pub mod Soundness
--- ---- a call (believed): length, soundness, step; opening; the run for a list
-pub mod Call
+-- ---- a call (believed): what it gives, and the run for a list; the reason that is given, and the tests of opening
+pub mod Given
+pub mod FirstReason
 -- ---- mixes of scripts (believed): scripts, mixes and orders, over any machine; script lines and what their callers hear
 pub mod Mixes
 pub mod Lines
 -- ---- the steps that a call takes: the state of a table and its changes, the fifteen commands and opening on it, the words of a state and the state
--- of words, the test that computes
+-- of words, the test that computes; the call, and opening
 pub mod State
 pub mod Steps
 pub mod Within
 pub mod Table
 pub mod Test
+pub mod Call
 -- ---- 01 by computation: the marked steps, the sample and the edges, readings that are not ours
 pub mod Compute
 pub mod Marked
@@ -69,7 +71,9 @@ pub mod Refused
 pub mod Growing
 pub mod Frame
 pub mod NamingFrame
--- ---- isolation and demand 3: effects on two s_groups, the swap law, mixes over any machine, on states, on tables
+-- ---- isolation and demand 3: s_groups that lines can make, the s_group that a line can feel, effects on two s_groups, the swap law, mixes over any machine, on states, on tables
+pub mod NewLines
+pub mod GroupData
 pub mod LineSteps
 pub mod Effects
 pub mod Swap

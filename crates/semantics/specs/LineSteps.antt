@@ -6,7 +6,12 @@ use Rattle.semantics.specs.Sizes.{group-limit}
 use Rattle.semantics.specs.State.{State}
 use Rattle.semantics.specs.GroupCommands.{within}
 use Rattle.semantics.specs.Steps.{Result, step}
+use Rattle.semantics.specs.Given.{Call}
 use Rattle.semantics.specs.Lines.{Said, Line}
+
+-- what a call says
+abbrev pub said-by-call : Call → Said
+said-by-call c = record { answer = c .answer; list = c .list }
 
 -- what a step says
 abbrev pub said-by-step : Result → Said

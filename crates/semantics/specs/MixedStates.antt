@@ -11,7 +11,8 @@ use Rattle.semantics.specs.State.{State}
 use Rattle.semantics.specs.Steps.{Result}
 use Rattle.semantics.specs.Mixes.{Turn, of, Mix, Disjoint, Each-once, whole, Agree}
 use Rattle.semantics.specs.Mixing.{of-head, whole-mix, mixing, agree-through}
-use Rattle.semantics.specs.Lines.{Said, Line, Same-group, cost, news, all-news}
+use Rattle.semantics.specs.Lines.{Said, Line, Same-group}
+use Rattle.semantics.specs.NewLines.{cost, news, all-news}
 use Rattle.semantics.specs.LineSteps.{said-by-step, step-of, step-move, step-say, Room-for}
 use Rattle.semantics.specs.Swap.{unbounded, step-unbounded, swap-moves, swap-says, grows}
 

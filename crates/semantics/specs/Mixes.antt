@@ -38,14 +38,10 @@ module _ {C : Type 0} where
   abbrev pub Each-once : List (List C) → List ℕ → Type 0
   Each-once scripts order = (k : ℕ) → k < length scripts → times k order ≡ 1
 
-  -- script k says its lines
-  abbrev pub turns : ℕ → List C → List (Turn C)
-  turns k l = map (λ c. record { script = k; line = c }) l
-
   -- the scripts whole, one after another, in the order
   unfoldable pub whole : List (List C) → List ℕ → List (Turn C)
   whole scripts [] = []
-  whole scripts (k ∷ ks) = turns k (getD scripts k []) ++ whole scripts ks
+  whole scripts (k ∷ ks) = map (λ c. record { script = k; line = c }) (getD scripts k []) ++ whole scripts ks
 
 -- ---- a machine: what a line makes of a state
 

@@ -2,14 +2,14 @@
 use mathlib.Core.Path.{_≡_, refl, sym, ap, ap₂, _∙_, subst}
 use mathlib.Core.Logic.{_≢_}
 use mathlib.Core.Bool.{Bool, true, false, cond}
-use mathlib.Core.List.{List, [], _∷_, _++_, List·Memᴰ, List·Memᴰ·head, List·Memᴰ·tail, nil≢cons, head-eq-of-cons-eq, tail-eq-of-cons-eq, append-nil}
+use mathlib.Core.List.{List, [], _∷_, _++_, map, List·Memᴰ, List·Memᴰ·head, List·Memᴰ·tail, nil≢cons, head-eq-of-cons-eq, tail-eq-of-cons-eq, append-nil}
 use Prim.Native.Nat.{ℕ, suc, _≤_, _<_}
 use lib.Dec.{eqb}
 use lib.ListN.{getD, length, List·getD-eq-default}
 use native.Mathlib.Omega.{arith}
 use native.Mathlib.Decide.{decLt}
 use borrow.Author.Tests.{eqb-true, eqb-false, eq-eqb, ne-eqb}
-use Rattle.semantics.specs.Mixes.{Turn, times, of, Mix, Disjoint, Each-once, turns, whole, last, answers, Agree}
+use Rattle.semantics.specs.Mixes.{Turn, times, of, Mix, Disjoint, Each-once, whole, last, answers, Agree}
 
 -- what a test of two script numbers shows
 data Same (j k : ℕ) : Bool → Type 0 where
@@ -106,6 +106,10 @@ module _ {C : Type 0} where
           → cond x (t .line ∷ of j (a ++ b)) (of j (a ++ b)) ≡ cond x (t .line ∷ of j a) (of j a) ++ of j b
       go true e = ap (λ (l : List C). t .line ∷ l) e
       go false e = e
+
+  -- script k says its lines
+  abbrev turns : ℕ → List C → List (Turn C)
+  turns k l = map (λ c. record { script = k; line = c }) l
 
   of-turns : (j k : ℕ) (l : List C) → of j (turns k l) ≡ cond (eqb k j) l []
   unfolding of

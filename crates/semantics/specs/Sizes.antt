@@ -1,5 +1,4 @@
--- How large everything is, and where each part of the table begins. Nothing else spells these numbers. Assumes nothing.
--- A roster has at most `node-limit` nodes, as many as a word has digits.
+-- How large everything is, and where each part of the table begins; `node-limit` is the size of a roster. Nothing else spells these numbers. Assumes nothing.
 use mathlib.Core.Path.{_≡_, refl}
 use Prim.Native.Nat.{ℕ, _+_, _*_}
 use Rattle.nodes.specs.NodeSets.{node-limit}
@@ -16,13 +15,9 @@ names-per-group = 32
 abbrev pub group-names : ℕ
 group-names = 65536
 
--- the words before the contents: roster size, hidden nodes, number of s_groups, zero
-abbrev pub head-words : ℕ
-head-words = 4
-
--- where the contents words begin, one an s_group
+-- where the contents words begin, one an s_group; before them: roster size, hidden nodes, number of s_groups, zero
 abbrev pub contents-at : ℕ
-contents-at = head-words
+contents-at = 4
 
 -- where the members begin, one word an s_group
 abbrev pub members-at : ℕ

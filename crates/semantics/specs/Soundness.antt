@@ -1,5 +1,4 @@
--- What the words of a table mean, and when a table is sound, in the order and the words of document 01. cap is how many names an s_group can hold.
--- `Test` has soundness as a test that computes, and `Agree` the proof that they agree. Assumes nothing.
+-- What the words of a table mean, and when it is sound, in the order and the words of document 01; cap names fit in an s_group. Assumes nothing.
 use mathlib.Core.Path.{_≡_}
 use mathlib.Core.Logic.{_≢_}
 use mathlib.Core.Bool.{true, cond}
@@ -9,7 +8,7 @@ use Prim.Native.Nat.{ℕ, zero, suc, _+_, _*_, _/_, _%_, _≤_, _<_}
 use lib.Dec.{eqb}
 use lib.ListN.{length}
 use Rattle.nodes.specs.NodeSets.{node-limit, has, word-at}
-use Rattle.entries.specs.Registered.{half-word, host}
+use Rattle.entries.specs.Pids.{half-word, host}
 use Rattle.semantics.specs.Sizes.{group-limit, group-names, contents-at, members-at, links-at, free-at, bodies-at, table-words}
 
 -- ---- the words by their meaning

@@ -18,7 +18,8 @@ use Rattle.semantics.specs.Ranges.{bad-group}
 use Rattle.semantics.specs.Steps.{Result, Effect, keep, Outcome, target, creates, say, as-member, inside, outcome, apply, settle, group-step}
 use Rattle.semantics.specs.Effects.{apply-comm, find-apply-other, size-apply, made, made-one, length-apply}
 use Rattle.semantics.specs.Within.{step-within}
-use Rattle.semantics.specs.Lines.{Said, Line, key, Same-group, cost}
+use Rattle.semantics.specs.Lines.{Said, Line, key, Same-group}
+use Rattle.semantics.specs.NewLines.{cost}
 use Rattle.semantics.specs.LineSteps.{said-by-step, step-of, step-say, Room-for}
 use Rattle.answers.specs.declared.Value.{Value}
 use Rattle.answers.specs.declared.Value.the-variants.{Error}

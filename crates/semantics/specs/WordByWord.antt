@@ -9,7 +9,7 @@ use lib.ListN.{length, getD}
 use Rattle.nodes.specs.Sets.{node-limit}
 use Rattle.nodes.specs.Bools.{by-lt}
 use Rattle.entries.specs.Entries.{word-of}
-use Rattle.semantics.specs.Sizes.{group-limit, head-words, bodies-at, table-words}
+use Rattle.semantics.specs.Sizes.{group-limit, contents-at, bodies-at, table-words}
 use Rattle.semantics.specs.State.{State}
 use Rattle.semantics.specs.Table.{contents, bodies, sections}
 use Rattle.semantics.specs.Soundness.{size-of, hidden-of, count-of, contents-of, members-of, links-of, free-of, entry-of}
@@ -46,7 +46,7 @@ reads {cap} {st} l = record {
 }
 
 module _ {cap : ℕ} {st : State} {t : List ℕ} (r : Reads cap st t) where
-  head-words-are : (i : ℕ) → i < head-words → getD t (0 + i) 0 ≡ getD (st .size ∷ st .hidden ∷ length (st .groups) ∷ 0 ∷ []) i 0
+  head-words-are : (i : ℕ) → i < contents-at → getD t (0 + i) 0 ≡ getD (st .size ∷ st .hidden ∷ length (st .groups) ∷ 0 ∷ []) i 0
   head-words-are zero h = r .size
   head-words-are (suc zero) h = r .hidden
   head-words-are (suc (suc zero)) h = r .count

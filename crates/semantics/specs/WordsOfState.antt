@@ -7,7 +7,7 @@ use native.Mathlib.Omega.{arith}
 use lib.Dec.{lit<}
 use lib.ListN.{length, getD, take, drop, set, length-map}
 use Rattle.nodes.specs.Sets.{node-limit}
-use Rattle.semantics.specs.Sizes.{group-limit, head-words, contents-at, members-at, links-at, free-at, bodies-at, table-words}
+use Rattle.semantics.specs.Sizes.{group-limit, contents-at, members-at, links-at, free-at, bodies-at, table-words}
 use Rattle.semantics.specs.State.{Group, State, with-groups, with-links, with-free}
 use Rattle.semantics.specs.Table.{pad, contents, bodies, sections, layout}
 use Rattle.semantics.specs.Soundness.{size-of, hidden-of, count-of, contents-of, members-of, links-of, free-of}
@@ -17,7 +17,7 @@ use Rattle.semantics.specs.Sections.{Sizes, Run, run-length, read, word-
 
 -- how many words each section has
 abbrev pub sizes : ℕ → List ℕ
-sizes cap = head-words ∷ group-limit ∷ group-limit ∷ node-limit ∷ node-limit ∷ group-limit * cap ∷ []
+sizes cap = contents-at ∷ group-limit ∷ group-limit ∷ node-limit ∷ node-limit ∷ group-limit * cap ∷ []
 
 -- the lists of the state fit their sections
 pub record Sized (st : State) : Type 0 where

@@ -1,14 +1,14 @@
 -- The words of a list: how many they are is what the answer says, they fit the run, and only two commands have any. Assumes nothing.
 use mathlib.Core.Path.{_≡_, refl}
 use mathlib.Core.Option.{Option, none, some}
-use mathlib.Core.Bool.{Bool, true, false, not, _&&_, _||_, cond}
+use mathlib.Core.Bool.{Bool, true, false, not, _&&_, cond}
 use mathlib.Core.List.{List, []}
 use Prim.Native.Nat.{ℕ, _≤_}
 use native.Mathlib.Omega.{arith}
 use borrow.Author.Tests.{ltb-false}
 use lib.Dec.{eqb, leb, ltb}
 use lib.ListN.{length}
-use Rattle.nodes.specs.Sets.{node-limit, has, beyond, count}
+use Rattle.nodes.specs.Sets.{has, beyond, count}
 use Rattle.entries.specs.Entries.{host, lookup, holds-pid}
 use Rattle.semantics.specs.Sizes.{group-limit, names-per-group, group-names, table-words}
 use Rattle.semantics.specs.State.{Group, State, find}
@@ -16,17 +16,19 @@ use Rattle.commands.specs.declared.Command.{Command}
 use Rattle.commands.specs.declared.Command.the-variants.{RegisterName, ReRegisterName, UnregisterName, RegisteredNames, WhereisName, WhereisNameAt, Send, SendName, SendAt, NewSGroup, AddNodes, RemoveNodes, DeleteSGroup, OwnNodes, OwnSGroups}
 use Rattle.semantics.specs.GroupCommands.{GroupCommand, register-name, re-register-name, unregister-name, whereis-name, registered-names, add-nodes, new-s-group}
 use Rattle.answers.specs.Answers.{answer-of}
+use Rattle.answers.specs.Answers as Answers
 use Rattle.semantics.specs.Ranges.{bad-group, held}
 use Rattle.semantics.specs.Steps.{Outcome, Effect, keep, done, say, listed, as-member, pid-or-undefined, full, name-words, inside, outcome, target, group-step}
 use Rattle.semantics.specs.Steps.{Result, reply, ask, tell, asking, for-member, own-set, own-list, rule, step}
 use Rattle.semantics.specs.Table.{state-of}
 use Rattle.semantics.specs.Test.{sound}
+use Rattle.semantics.specs.FirstReason.{first, opening-tests}
 use Rattle.semantics.specs.Call.{Call, refused, written, call, opening}
 use Rattle.answers.specs.declared.Answer.{Answer}
 use Rattle.answers.specs.declared.Value.{Value}
 use Rattle.answers.specs.declared.Value.the-variants.{Ok, True, False, Error, Undefined, Pid, Grouped, Nodes, Listed}
 use Rattle.answers.specs.declared.Reason.{Reason}
-use Rattle.answers.specs.declared.Reason.the-variants.{Done, TableLength, RosterSize, Unsound, CallerUnknown, GroupNameRange, NameZero, NodeUnknown, GroupUnknown, NotMember, NameTaken, PidTaken, NotRegistered, NamespaceFull, CallerOutside, GroupTaken, GroupsFull, RunShort}
+use Rattle.answers.specs.declared.Reason.the-variants.{Done, TableLength, Unsound, CallerUnknown, GroupNameRange, NameZero, NodeUnknown, GroupUnknown, NotMember, NameTaken, PidTaken, NotRegistered, NamespaceFull, CallerOutside, GroupTaken, GroupsFull, RunShort}
 
 -- how many words a value says that its list has
 abbrev pub count-of : Value → ℕ
@@ -220,9 +222,8 @@ module _ (Q : Answer → List ℕ → Type 0) (plain : (a : Answer) → count-of
   openings : (N hidden : ℕ) (t : List ℕ) → Of-call Q (opening N hidden t)
   unfolding opening
   openings N hidden t =
-      or-call (not (eqb (length t) (table-words names-per-group))) (refuses TableLength t)
-      (or-call (eqb N 0 || ltb node-limit N) (refuses RosterSize t)
-      (or-call (beyond hidden N) (refuses NodeUnknown t) (record { holds = plain (answer-of Ok Done) refl })))
+      let r : Reason = first (opening-tests (length t) N hidden) in
+      or-call (Answers.refuses r) (refuses r t) (record { holds = plain (answer-of Ok Done) refl })
 
 -- ---- for every call
 

@@ -5,7 +5,7 @@ ghost use Rattle.answers.specs.Outputs.{kind};
 ghost use Rattle.answers.specs.declared.Value.the-variants.{Error};
 ghost use Rattle.answers.specs.declared.Reason.the-variants.{Done};
 
-// What a call answers.
+// The value of an answer.
 pub enum Value {
     // opening went through
     Ok,

@@ -19,7 +19,8 @@ for edit in crates/*/must-fail/*.edit; do
         bad=1
         continue
     fi
-    first=$(grep -m 1 -e 'error' -e 'it is not proved' "$log")
+    # What "was not admitted" only follows from another error.
+    first=$(grep -e 'error' -e 'it is not proved' "$log" | grep -v -m 1 'was not admitted')
     [[ $first =~ error:\ \`([^\`]*)\` ]] && at=${BASH_REMATCH[1]} || at=
     case $at:$first in
         :) echo "$edit: its log names no fact"; bad=1 ;;

@@ -17,7 +17,7 @@ ghost use Rattle.semantics.specs.Steps.{mapi};
 ghost use Rattle.semantics.specs.Call.{opening};
 
 // Each node of the set stands in its own word, alone.
-pub fn alone(words: &mut [u64], set: u64)
+fn alone(words: &mut [u64], set: u64)
     ensures { λ _. ⌜ now (words .exit) ≡ mapi (λ i w. cond (has set i) (with-node 0 i) w) 0 (now (words .entry)) ⌝ }
 {
     let mut left = set;

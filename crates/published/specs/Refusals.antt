@@ -77,7 +77,7 @@ tests-set s set ni X =
     CallerUnknown when off-roster ni X ∷ GroupNameRange when bad-group s ∷ NodeUnknown when strays (has set) X
     ∷ GroupUnknown when unknown s X ∷ NotMember when outsider ni s X ∷ []
 
--- the reasons that a command can have, by number, after 1 and 3, which are about the table; room is how many words the run for a list has
+-- the reasons that a command can have, by rank, after 1 and 3, which are about the table; room is how many words the run for a list has
 unfoldable pub tests : ℕ → Command → ℕ → Published → List Test
 tests room (RegisterName s n p) ni X =
     CallerUnknown when off-roster ni X ∷ GroupNameRange when bad-group s ∷ NameZero when eqb n 0 ∷ NodeUnknown when off-roster (host p) X

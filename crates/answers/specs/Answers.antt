@@ -7,7 +7,7 @@ use lib.Dec.{eqb, leb}
 use Rattle.answers.specs.declared.Answer.{Answer}
 use Rattle.answers.specs.declared.Value.{Value}
 use Rattle.answers.specs.declared.Reason.{Reason}
-use Rattle.answers.specs.declared.Reason.the-variants.{Done, TableLength, RosterSize, Unsound, CallerUnknown, GroupNameRange, NameZero, NodeUnknown, GroupUnknown, NotMember, NameTaken, PidTaken, NotRegistered, NamespaceFull, CallerOutside, GroupTaken, GroupsFull, RunShort}
+use Rattle.answers.specs.declared.Reason.the-variants.{Done, TableLength, RosterSize, Unsound, CallerUnknown, GroupNameRange, NameZero, NodeUnknown, GroupUnknown, NotMember, NameTaken, PidTaken, NotRegistered, NamespaceFull, CallerOutside, GroupTaken, GroupsFull, RunShort, NoLaunchFile, GroupsDiffer, AtomUnknown}
 
 -- the number of a reason
 abbrev pub number : Reason → ℕ
@@ -29,12 +29,19 @@ number CallerOutside = 14
 number GroupTaken = 15
 number GroupsFull = 16
 number RunShort = 17
+number NoLaunchFile = 18
+number GroupsDiffer = 19
+number AtomUnknown = 20
 
 -- the reasons in the order in which they are tested; Done, where no test holds, stands first
 abbrev pub order : List Reason
 order =
-    Done ∷ TableLength ∷ RosterSize ∷ Unsound ∷ CallerUnknown ∷ GroupNameRange ∷ NameZero ∷ NodeUnknown ∷ GroupUnknown ∷ NotMember
-    ∷ NameTaken ∷ PidTaken ∷ NotRegistered ∷ NamespaceFull ∷ CallerOutside ∷ GroupTaken ∷ GroupsFull ∷ RunShort ∷ []
+    Done ∷ TableLength ∷ RosterSize ∷ Unsound ∷ CallerUnknown ∷ GroupNameRange ∷ NameZero ∷ NodeUnknown ∷ NoLaunchFile ∷ GroupsDiffer ∷ AtomUnknown
+    ∷ GroupUnknown ∷ NotMember ∷ NameTaken ∷ PidTaken ∷ NotRegistered ∷ NamespaceFull ∷ CallerOutside ∷ GroupTaken ∷ GroupsFull ∷ RunShort ∷ []
+
+-- whether a reason is one of 01's own; those of 02 stand out of the order of their numbers
+abbrev pub of-01 : Reason → Bool
+of-01 r = leb (number r) (number RunShort)
 
 -- how many reasons of the list stand before r
 abbrev pub before : Reason → List Reason → ℕ

@@ -42,6 +42,9 @@ pub enum Reason {
     GroupTaken,
     GroupsFull,
     RunShort,
+    NoLaunchFile,
+    GroupsDiffer,
+    AtomUnknown,
 }
 
 // What a call answers.
@@ -97,6 +100,9 @@ pub fn number(reason: Reason) -> u32
         Reason::GroupTaken => 15,
         Reason::GroupsFull => 16,
         Reason::RunShort => 17,
+        Reason::NoLaunchFile => 18,
+        Reason::GroupsDiffer => 19,
+        Reason::AtomUnknown => 20,
     }
 }
 

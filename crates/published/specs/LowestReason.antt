@@ -1,49 +1,68 @@
--- The reason that is given is the lowest that holds: the tests of each command, and of opening, ascend by rank, which is the order of 01's numbers.
+-- The reason that is given is the lowest that holds: the tests of each command, and of opening, ascend by rank, which for 01's reasons is the
+-- order of their numbers.
 -- Assumes nothing.
 use mathlib.Core.Path.{_≡_, refl, sym, ap, _∙_}
 use mathlib.Core.Logic.{_↔_, _⊎_, inl, inr}
 use mathlib.Core.Bool.{Bool, true, false, cond, false≢true, and-eq-true-iff}
 use mathlib.Core.List.{List, [], _∷_, map, List·Memᴰ, List·Memᴰ·head, List·Memᴰ·tail, List·Memᴰ·not-nil}
-use Prim.Native.Nat.{ℕ, _≤_, _<_}
+use Prim.Native.Nat.{ℕ, _+_, _≤_, _<_}
 use native.Mathlib.Omega.{arith}
 use lib.Dec.{ltb}
-use borrow.Author.Tests.{ltb-true}
-use Rattle.answers.specs.Answers.{number, rank}
+use borrow.Author.Tests.{ltb-true, ltb-false}
+use Rattle.answers.specs.Answers.{number, rank, of-01}
 use Rattle.semantics.specs.Test.{ascending}
 use Rattle.semantics.specs.FirstReason.{Test, first, opening-tests}
 use Rattle.commands.specs.declared.Command.{Command}
 use Rattle.commands.specs.declared.Command.the-variants.{RegisterName, ReRegisterName, UnregisterName, RegisteredNames, WhereisName, WhereisNameAt, Send, SendName, SendAt, NewSGroup, AddNodes, RemoveNodes, DeleteSGroup, OwnNodes, OwnSGroups}
 use Rattle.answers.specs.declared.Reason.{Reason}
-use Rattle.answers.specs.declared.Reason.the-variants.{Done, TableLength, RosterSize, Unsound, CallerUnknown, GroupNameRange, NameZero, NodeUnknown, GroupUnknown, NotMember, NameTaken, PidTaken, NotRegistered, NamespaceFull, CallerOutside, GroupTaken, GroupsFull, RunShort}
+use Rattle.answers.specs.declared.Reason.the-variants.{Done, TableLength, RosterSize, Unsound, CallerUnknown, GroupNameRange, NameZero, NodeUnknown, GroupUnknown, NotMember, NameTaken, PidTaken, NotRegistered, NamespaceFull, CallerOutside, GroupTaken, GroupsFull, RunShort, NoLaunchFile, GroupsDiffer, AtomUnknown}
 use Rattle.published.specs.Published.{Published}
 use Rattle.published.specs.Refusals.{Lowest, tests}
 
 -- ---- ranks
 
--- every reason of 01 has its number as its rank
-rank-is : (r : Reason) → rank r ≡ number r
-rank-is Done = refl
-rank-is TableLength = refl
-rank-is RosterSize = refl
-rank-is Unsound = refl
-rank-is CallerUnknown = refl
-rank-is GroupNameRange = refl
-rank-is NameZero = refl
-rank-is NodeUnknown = refl
-rank-is GroupUnknown = refl
-rank-is NotMember = refl
-rank-is NameTaken = refl
-rank-is PidTaken = refl
-rank-is NotRegistered = refl
-rank-is NamespaceFull = refl
-rank-is CallerOutside = refl
-rank-is GroupTaken = refl
-rank-is GroupsFull = refl
-rank-is RunShort = refl
+-- how many reasons of 02 are tested before the reason of 01 with this number: the three of launching, behind 7
+earlier : ℕ → ℕ
+earlier k = cond (ltb (number NodeUnknown) k) 3 0
+
+-- the rank of a reason of 01
+rank-is : (r : Reason) → of-01 r ≡ true → rank r ≡ earlier (number r) + number r
+unfolding earlier
+rank-is Done h = refl
+rank-is TableLength h = refl
+rank-is RosterSize h = refl
+rank-is Unsound h = refl
+rank-is CallerUnknown h = refl
+rank-is GroupNameRange h = refl
+rank-is NameZero h = refl
+rank-is NodeUnknown h = refl
+rank-is GroupUnknown h = refl
+rank-is NotMember h = refl
+rank-is NameTaken h = refl
+rank-is PidTaken h = refl
+rank-is NotRegistered h = refl
+rank-is NamespaceFull h = refl
+rank-is CallerOutside h = refl
+rank-is GroupTaken h = refl
+rank-is GroupsFull h = refl
+rank-is RunShort h = refl
+rank-is NoLaunchFile h = absurd (false≢true h)
+rank-is GroupsDiffer h = absurd (false≢true h)
+rank-is AtomUnknown h = absurd (false≢true h)
+
+rises : (a b : ℕ) → (earlier a + a < earlier b + b) ↔ (a < b)
+unfolding earlier
+rises a b = go (ltb 7 a) refl (ltb 7 b) refl
+  where
+    go : (x : Bool) → ltb 7 a ≡ x → (y : Bool) → ltb 7 b ≡ y → (cond x 3 0 + a < cond y 3 0 + b) ↔ (a < b)
+    go true p true q = (λ h. omega arith, λ h. omega arith)
+    go true p false q = let u = ltb-true 7 a p in let v = ltb-false 7 b q in (λ h. omega arith, λ h. omega arith)
+    go false p true q = let u = ltb-false 7 a p in let v = ltb-true 7 b q in (λ h. omega arith, λ h. omega arith)
+    go false p false q = (λ h. omega arith, λ h. omega arith)
 
 -- by rank is by number, as 01 has it
-pub by-number : (r q : Reason) → (rank r < rank q) ↔ (number r < number q)
-by-number r q = rw (rank-is r, rank-is q) (λ h. h, λ h. h)
+pub by-number : (r q : Reason) → of-01 r ≡ true → of-01 q ≡ true → (rank r < rank q) ↔ (number r < number q)
+by-number r q h k = rw (rank-is r h, rank-is q k) (rises (number r) (number q))
 
 -- ---- the lowest
 

@@ -4,4 +4,6 @@ pub mod Spelling
 pub mod Course
 pub mod Takes
 pub mod Spelt
+pub mod Parsed
+pub mod Converse
 pub mod Samples

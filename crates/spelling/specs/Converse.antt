@@ -1,21 +1,21 @@
 -- Every text that is taken is a spelling of a launch file. Assumes nothing.
 use mathlib.Core.Path.{_≡_, refl, sym, ap, _∙_}
-use mathlib.Core.Bool.{Bool, true, false, not, _&&_, cond}
+use mathlib.Core.Bool.{Bool, true, false, _&&_, cond}
 use mathlib.Core.List.{List, [], _∷_, _++_, append-assoc, append-nil}
-use Prim.Native.Nat.{ℕ, zero, suc, _<_}
+use Prim.Native.Nat.{ℕ, zero, suc}
 use native.Mathlib.Omega.{arith}
 use borrow.Author.Tests.{eqb-true, ltb-true}
 use lib.Dec.{eqb, ltb}
 use lib.ListN.{length}
 use Rattle.tokens.specs.Bytes.{quote, white, digit, small, name-byte, plain-byte}
 use Rattle.tokens.specs.Reserved.{bytes, same, is-reserved}
-use Rattle.grammar.specs.File.{Group, Level, file, kernel, Here, Sign, comma, open-list, close-list, open-tuple, close-tuple, ascii, Bracket, list, tuple, closing, depth-limit, Use, key, name, node, Phase, sign, letters, atom, plain, quoted, first-pair, next-pair, first-group, next-group, kind, next-node, value, first, after, word, other, digits, full-stop, Move, goes, stops, dead, reads, ends-pairs, ended-pairs, ended-groups, with-group, behind-kind, behind-word, behind-quote, keyed, named, node-next, opens, begins, closes, separates, follows, Lead, to-sign, to-node, nowhere, enters, own-key, step, Outcome, taken, refused, ends, onward, rest, outcome}
+use Rattle.grammar.specs.File.{Group, Level, file, kernel, Here, Sign, comma, open-list, close-list, open-tuple, close-tuple, ascii, Bracket, list, tuple, closing, depth-limit, Use, key, name, node, Phase, sign, letters, atom, plain, quoted, first-pair, next-pair, first-group, next-group, kind, next-node, value, first, after, word, other, digits, full-stop, Move, goes, stops, dead, reads, ends-pairs, ended-pairs, ended-groups, with-group, behind-kind, behind-word, behind-quote, keyed, named, node-next, opens, begins, closes, separates, follows, Lead, to-sign, to-node, nowhere, enters, own-key, step, taken, refused, ends, onward, rest, outcome}
 use Rattle.grammar.specs.File as File
-use Rattle.spelling.specs.Spelling.{Form, bare, in-quotes, Atom, LaunchFile, groups-of, all, well-named, good-atom, good-number, well-formed, Token, a-sign, an-atom, a-number, the-stop, opener, closer, atom-bytes, token-bytes, Blank, spaced, spell}
+use Rattle.spelling.specs.Spelling.{bare, in-quotes, Atom, LaunchFile, groups-of, all, well-named, good-atom, good-number, well-formed, Token, a-sign, an-atom, a-number, the-stop, opener, closer, atom-bytes, token-bytes, Blank, spaced, spell}
 use Rattle.spelling.specs.Spelling as Spelling
 use Rattle.spelling.specs.Course.{with-entry, Course, at-sign, at-atom, at-node, one-pair, no-pair, more-pairs, end-pairs, one-group, no-group, more-groups, end-groups, at-kind, more-nodes, end-nodes, value-atom, value-number, value-opens, first-value, first-closes, more-values, value-closes, pair-closes, at-stop}
-use Rattle.spelling.specs.Takes.{both}
-use Rattle.spelling.specs.Parsed.{also, course-parsed}
+use Rattle.spelling.specs.Tests.{both, also}
+use Rattle.spelling.specs.Parsed.{course-parsed}
 
 -- ---- a text cut into tokens
 
@@ -186,9 +186,9 @@ module _ (gs : List Group) (p b : ℕ) (bs : List ℕ) (ih : (g : Here) (d : Lis
   ends-case h ph r e =
       tested (eqb b (ascii close-list) && h .found) (ended-pairs (h .level) (h .groups)) dead e
       (λ y t.
-        let (y₁, y₂) = both (eqb b (ascii close-list)) (h .found) y in
-        let (g, f, q, k) = ended-case (h .level) (h .groups) t in
-        one-sign h g [] [] ph f close-list y₁ k (r g f (k .tokens) y₂ q))
+      let (y₁, y₂) = both (eqb b (ascii close-list)) (h .found) y in
+      let (g, f, q, k) = ended-case (h .level) (h .groups) t in
+      one-sign h g [] [] ph f close-list y₁ k (r g f (k .tokens) y₂ q))
       (λ y t. stuck t)
 
   first-pair-case : (h : Here) → To (step h [] first-pair b) → Cut gs h [] first-pair (b ∷ bs)
@@ -210,8 +210,8 @@ module _ (gs : List Group) (p b : ℕ) (bs : List ℕ) (ih : (g : Here) (d : Lis
   groups-end h ph r e =
       tested (eqb b (ascii close-list)) (ended-groups h) dead e
       (λ y t.
-        let k = cut-sign gs (with-entry h) close-tuple next-pair bs (λ s l. l) (ih (with-entry h) [] (sign close-tuple next-pair) t) in
-        one-sign h (with-entry h) [] [] ph (sign close-tuple next-pair) close-list y k (r (k .tokens)))
+      let k = cut-sign gs (with-entry h) close-tuple next-pair bs (λ s l. l) (ih (with-entry h) [] (sign close-tuple next-pair) t) in
+      one-sign h (with-entry h) [] [] ph (sign close-tuple next-pair) close-list y k (r (k .tokens)))
       (λ y t. stuck t)
 
   first-group-case : (h : Here) → To (step h [] first-group b) → Cut gs h [] first-group (b ∷ bs)
@@ -230,9 +230,9 @@ module _ (gs : List Group) (p b : ℕ) (bs : List ℕ) (ih : (g : Here) (d : Lis
   node-case h n ns e =
       reads-case h (next-node n ns) (atom (node n ns)) comma _ e (λ k. k) (λ y k. one-sign h h [] [] (next-node n ns) (atom (node n ns)) comma y k more-nodes)
       (λ t. tested (eqb b (ascii close-list)) (goes (with-group h n ns) [] (sign close-tuple next-group)) dead t
-          (λ y u. one-sign h (with-group h n ns) [] [] (next-node n ns) (sign close-tuple next-group) close-list y
-              (cut-sign gs (with-group h n ns) close-tuple next-group bs (λ s l. l) (ih (with-group h n ns) [] (sign close-tuple next-group) u)) end-nodes)
-          (λ y u. stuck u))
+      (λ y u. one-sign h (with-group h n ns) [] [] (next-node n ns) (sign close-tuple next-group) close-list y
+      (cut-sign gs (with-group h n ns) close-tuple next-group bs (λ s l. l) (ih (with-group h n ns) [] (sign close-tuple next-group) u)) end-nodes)
+      (λ y u. stuck u))
 
   -- `normal`
   letters-case : (h : Here) (due : List Bracket) (c : ℕ) (cs : List ℕ) (ph : Phase) → To (step h due (letters c cs ph) b) → Claim gs h due (letters c cs ph) (b ∷ bs)
@@ -251,23 +251,23 @@ module _ (gs : List Group) (p b : ℕ) (bs : List ℕ) (ih : (g : Here) (d : Lis
   kind-case h n e =
       past-space h [] (kind n) _ e (λ k. k)
       (λ t. tested (eqb b 110) _ _ t
-          (λ y u.
-            let (s, q, k) = ih h [] (letters 111 (bytes "rmal") (behind-kind n)) u in
-            let j : b ≡ 110 = eqb-true b 110 y in
-            rw (j, q) (cut-token gs h h [] [] (kind n) (behind-kind n) [] (Spelling.word bare (bytes "normal")) s refl (behind-normal h n s k) (at-kind bare)))
-          (λ z u. tested (eqb b quote) _ dead u
-              (λ y r.
-                let (s, q, k) = ih h [] (letters 110 (bytes "ormal'") (behind-kind n)) r in
-                let j : b ≡ quote = eqb-true b quote y in
-                rw (j, q) (cut-token gs h h [] [] (kind n) (behind-kind n) [] (Spelling.word in-quotes (bytes "normal")) s refl (behind-normal h n s k) (at-kind in-quotes)))
-              (λ y r. stuck r)))
+      (λ y u.
+      let (s, q, k) = ih h [] (letters 111 (bytes "rmal") (behind-kind n)) u in
+      let j : b ≡ 110 = eqb-true b 110 y in
+      rw (j, q) (cut-token gs h h [] [] (kind n) (behind-kind n) [] (Spelling.word bare (bytes "normal")) s refl (behind-normal h n s k) (at-kind bare)))
+      (λ z u. tested (eqb b quote) _ dead u
+      (λ y r.
+      let (s, q, k) = ih h [] (letters 110 (bytes "ormal'") (behind-kind n)) r in
+      let j : b ≡ quote = eqb-true b quote y in
+      rw (j, q) (cut-token gs h h [] [] (kind n) (behind-kind n) [] (Spelling.word in-quotes (bytes "normal")) s refl (behind-normal h n s k) (at-kind in-quotes)))
+      (λ y r. stuck r)))
 
   -- ---- atoms that are read
 
-  word-led : (h : Here) (u : Use) (w : List ℕ) (l : Lead) → To (behind-word l b) → Led-claim gs l (b ∷ bs)
-  word-led h u w (to-sign g c ph) e = sign-case g c ph e
-  word-led h u w (to-node g n ns) e = node-case g n ns e
-  word-led h u w nowhere e = stuck e
+  word-led : (l : Lead) → To (behind-word l b) → Led-claim gs l (b ∷ bs)
+  word-led (to-sign g c ph) e = sign-case g c ph e
+  word-led (to-node g n ns) e = node-case g n ns e
+  word-led nowhere e = stuck e
 
   quote-led : (l : Lead) → To (behind-quote l) → Led-claim gs l bs
   quote-led (to-sign g c ph) e = ih g [] (sign c ph) e
@@ -279,11 +279,11 @@ module _ (gs : List Group) (p b : ℕ) (bs : List ℕ) (ih : (g : Here) (d : Lis
   plain-case h due u w e =
       tested (name-byte b) _ _ e
       (λ y t.
-        let (v, s, a, r, q, k) = ih h [] (plain u (w ++ (b ∷ []))) t in
-        let j : (w ++ (b ∷ [])) ++ v ≡ w ++ (b ∷ v) = append-assoc w (b ∷ []) v in
-        (b ∷ v, s, also y a, rw j at r, ap (λ x. b ∷ x) q, rw j at k))
+      let (v, s, a, r, q, k) = ih h [] (plain u (w ++ (b ∷ []))) t in
+      let j : (w ++ (b ∷ [])) ++ v ≡ w ++ (b ∷ v) = append-assoc w (b ∷ []) v in
+      (b ∷ v, s, also y a, rw j at r, ap (λ x. b ∷ x) q, rw j at k))
       (λ z t. tested (is-reserved w) dead _ t (λ y r. stuck r)
-          (λ y r. ([], b ∷ bs, refl, rw append-nil y, refl, rw append-nil (lead-cut gs h u w (b ∷ bs) (word-led h u w (named h u w) r)))))
+      (λ y r. ([], b ∷ bs, refl, rw append-nil y, refl, rw append-nil (lead-cut gs h u w (b ∷ bs) (word-led (named h u w) r)))))
 
   quoted-case : (h : Here) (due : List Bracket) (u : Use) (w : List ℕ) → To (step h due (quoted u w) b) → Claim gs h due (quoted u w) (b ∷ bs)
   unfolding step all
@@ -291,27 +291,27 @@ module _ (gs : List Group) (p b : ℕ) (bs : List ℕ) (ih : (g : Here) (d : Lis
       tested (eqb b quote) _ _ e
       (λ y t. ([], bs, refl, ap (λ x. x ∷ bs) (eqb-true b quote y), rw append-nil (lead-cut gs h u w bs (quote-led (named h u w) t))))
       (λ y t. tested (eqb b 92) dead _ t (λ z r. stuck r)
-          (λ z r.
-            let (v, s, a, q, k) = ih h [] (quoted u (w ++ (b ∷ []))) r in
-            let j : (w ++ (b ∷ [])) ++ v ≡ w ++ (b ∷ v) = append-assoc w (b ∷ []) v in
-            let g : plain-byte b ≡ true = rw (y, z) in
-            (b ∷ v, s, also g a, ap (λ x. b ∷ x) q, rw j at k)))
+      (λ z r.
+      let (v, s, a, q, k) = ih h [] (quoted u (w ++ (b ∷ []))) r in
+      let j : (w ++ (b ∷ [])) ++ v ≡ w ++ (b ∷ v) = append-assoc w (b ∷ []) v in
+      let g : plain-byte b ≡ true = rw (y, z) in
+      (b ∷ v, s, also g a, ap (λ x. b ∷ x) q, rw j at k)))
 
   atom-case : (h : Here) (u : Use) → To (step h [] (atom u) b) → Cut gs h [] (atom u) (b ∷ bs)
   unfolding step well-named
   atom-case h u e =
       past-space h [] (atom u) _ e (λ k. k)
       (λ t. tested (small b) _ _ t
-          (λ y r.
-            let (v, s, a, f, q, k) = ih h [] (plain u (b ∷ [])) r in
-            rw q (cut-atom gs h u (record { form = bare; name = b ∷ v }) s (also y (also a (rw f))) (named h u (b ∷ v)) refl k))
-          (λ z r. tested (eqb b quote) _ dead r
-              (λ y x.
-                let (v, s, a, q, k) = ih h [] (quoted u []) x in
-                let j : b ≡ quote = eqb-true b quote y in
-                let c : (v ++ (quote ∷ [])) ++ s ≡ v ++ (quote ∷ s) = append-assoc v (quote ∷ []) s in
-                rw (j, q, ← c) (cut-atom gs h u (record { form = in-quotes; name = v }) s a (named h u v) refl k))
-              (λ y x. stuck x)))
+      (λ y r.
+      let (v, s, a, f, q, k) = ih h [] (plain u (b ∷ [])) r in
+      rw q (cut-atom gs h u (record { form = bare; name = b ∷ v }) s (also y (also a (rw f))) (named h u (b ∷ v)) refl k))
+      (λ z r. tested (eqb b quote) _ dead r
+      (λ y x.
+      let (v, s, a, q, k) = ih h [] (quoted u []) x in
+      let j : b ≡ quote = eqb-true b quote y in
+      let c : (v ++ (quote ∷ [])) ++ s ≡ v ++ (quote ∷ s) = append-assoc v (quote ∷ []) s in
+      rw (j, q, ← c) (cut-atom gs h u (record { form = in-quotes; name = v }) s a (named h u v) refl k))
+      (λ y x. stuck x)))
 
   -- ---- skipped values
 
@@ -328,8 +328,8 @@ module _ (gs : List Group) (p b : ℕ) (bs : List ℕ) (ih : (g : Here) (d : Lis
   after-case h (c ∷ due) e =
       past-space h (c ∷ due) after _ e (λ k. k)
       (λ t. tested (eqb b (closing c)) (goes h due after) _ t
-          (λ y u. one-sign h h (c ∷ due) due after after (closer c) (rw closed-by at y) (ih h due after u) value-closes)
-          (λ z u. tested (eqb b (ascii comma)) (goes h (c ∷ due) value) dead u (λ y r. one-sign h h (c ∷ due) (c ∷ due) after value comma y (ih h (c ∷ due) value r) more-values) (λ y r. stuck r)))
+      (λ y u. one-sign h h (c ∷ due) due after after (closer c) (rw closed-by at y) (ih h due after u) value-closes)
+      (λ z u. tested (eqb b (ascii comma)) (goes h (c ∷ due) value) dead u (λ y r. one-sign h h (c ∷ due) (c ∷ due) after value comma y (ih h (c ∷ due) value r) more-values) (λ y r. stuck r)))
 
   opens-case : (h : Here) (due : List Bracket) (c : Bracket) → eqb b (ascii (opener c)) ≡ true → To (opens h c due) → Cut gs h due value (b ∷ bs)
   unfolding opens
@@ -343,19 +343,19 @@ module _ (gs : List Group) (p b : ℕ) (bs : List ℕ) (ih : (g : Here) (d : Lis
   begins-case h due e =
       tested (small b) _ _ e
       (λ y t.
-        let (v, s, a, f, q, k) = ih h due (word (b ∷ [])) t in
-        let g : well-named bare (b ∷ v) ≡ true = also y (also a (rw f)) in
-        rw q (cut-token gs h h due due value after [] (Spelling.word bare (b ∷ v)) s refl k (value-atom _ g)))
+      let (v, s, a, f, q, k) = ih h due (word (b ∷ [])) t in
+      let g : well-named bare (b ∷ v) ≡ true = also y (also a (rw f)) in
+      rw q (cut-token gs h h due due value after [] (Spelling.word bare (b ∷ v)) s refl k (value-atom _ g)))
       (λ z₁ e₁. tested (eqb b quote) _ _ e₁
-          (λ y t.
-            let (v, s, a, q, k) = ih h due other t in
-            let j : b ≡ quote = eqb-true b quote y in
-            let c : (v ++ (quote ∷ [])) ++ s ≡ v ++ (quote ∷ s) = append-assoc v (quote ∷ []) s in
-            rw (j, q, ← c) (cut-token gs h h due due value after [] (Spelling.word in-quotes v) s refl k (value-atom _ a)))
-          (λ z₂ e₂. tested (digit b) _ _ e₂
-              (λ y t. let (v, s, a, q, k) = ih h due digits t in rw q (cut-token gs h h due due value after [] (a-number (b ∷ v)) s refl k (value-number (b ∷ v) (also y a))))
-              (λ z₃ e₃. tested (eqb b (ascii open-list)) _ _ e₃ (λ y t. opens-case h due list y t)
-                  (λ z₄ e₄. tested (eqb b (ascii open-tuple)) _ dead e₄ (λ y t. opens-case h due tuple y t) (λ y t. stuck t)))))
+      (λ y t.
+      let (v, s, a, q, k) = ih h due other t in
+      let j : b ≡ quote = eqb-true b quote y in
+      let c : (v ++ (quote ∷ [])) ++ s ≡ v ++ (quote ∷ s) = append-assoc v (quote ∷ []) s in
+      rw (j, q, ← c) (cut-token gs h h due due value after [] (Spelling.word in-quotes v) s refl k (value-atom _ a)))
+      (λ z₂ e₂. tested (digit b) _ _ e₂
+      (λ y t. let (v, s, a, q, k) = ih h due digits t in rw q (cut-token gs h h due due value after [] (a-number (b ∷ v)) s refl k (value-number (b ∷ v) (also y a))))
+      (λ z₃ e₃. tested (eqb b (ascii open-list)) _ _ e₃ (λ y t. opens-case h due list y t)
+      (λ z₄ e₄. tested (eqb b (ascii open-tuple)) _ dead e₄ (λ y t. opens-case h due tuple y t) (λ y t. stuck t)))))
 
   as-first : (h : Here) (due : List Bracket) (s : List ℕ) → Cut gs h due value s → Cut gs h due first s
   as-first h due s k = record { gap = k .gap; blank = k .blank; tokens = k .tokens; text = k .text; course = first-value (k .course) }
@@ -366,16 +366,16 @@ module _ (gs : List Group) (p b : ℕ) (bs : List ℕ) (ih : (g : Here) (d : Lis
   first-case h (c ∷ due) e =
       past-space h (c ∷ due) first _ e (λ k. k)
       (λ t. tested (eqb b (closing c)) (goes h due after) _ t
-          (λ y u. one-sign h h (c ∷ due) due first after (closer c) (rw closed-by at y) (ih h due after u) first-closes)
-          (λ z u. as-first h (c ∷ due) (b ∷ bs) (begins-case h (c ∷ due) u)))
+      (λ y u. one-sign h h (c ∷ due) due first after (closer c) (rw closed-by at y) (ih h due after u) first-closes)
+      (λ z u. as-first h (c ∷ due) (b ∷ bs) (begins-case h (c ∷ due) u)))
 
   word-case : (h : Here) (due : List Bracket) (w : List ℕ) → To (step h due (word w) b) → Claim gs h due (word w) (b ∷ bs)
   unfolding step all
   word-case h due w e =
       tested (name-byte b) _ _ e
       (λ y t.
-        let (v, s, a, r, q, k) = ih h due (word (w ++ (b ∷ []))) t in
-        (b ∷ v, s, also y a, rw (append-assoc w (b ∷ []) v) at r, ap (λ x. b ∷ x) q, k))
+      let (v, s, a, r, q, k) = ih h due (word (w ++ (b ∷ []))) t in
+      (b ∷ v, s, also y a, rw (append-assoc w (b ∷ []) v) at r, ap (λ x. b ∷ x) q, k))
       (λ z t. tested (is-reserved w) dead _ t (λ y r. stuck r) (λ y r. ([], b ∷ bs, refl, rw append-nil y, refl, after-case h due r)))
 
   other-case : (h : Here) (due : List Bracket) → To (step h due other b) → Claim gs h due other (b ∷ bs)
@@ -384,10 +384,10 @@ module _ (gs : List Group) (p b : ℕ) (bs : List ℕ) (ih : (g : Here) (d : Lis
       tested (eqb b quote) _ _ e
       (λ y t. ([], bs, refl, ap (λ x. x ∷ bs) (eqb-true b quote y), ih h due after t))
       (λ y t. tested (eqb b 92) dead _ t (λ z r. stuck r)
-          (λ z r.
-            let (v, s, a, q, k) = ih h due other r in
-            let g : plain-byte b ≡ true = rw (y, z) in
-            (b ∷ v, s, also g a, ap (λ x. b ∷ x) q, k)))
+      (λ z r.
+      let (v, s, a, q, k) = ih h due other r in
+      let g : plain-byte b ≡ true = rw (y, z) in
+      (b ∷ v, s, also g a, ap (λ x. b ∷ x) q, k)))
 
   digits-case : (h : Here) (due : List Bracket) → To (step h due digits b) → Claim gs h due digits (b ∷ bs)
   unfolding step all
@@ -403,16 +403,16 @@ module _ (gs : List Group) (p b : ℕ) (bs : List ℕ) (ih : (g : Here) (d : Lis
   stop-case h e =
       past-space h [] full-stop _ e (λ k. k)
       (λ t. tested (eqb b 46) (stops (h .groups)) dead t
-          (λ y u.
-            let (w, g) = ended gs (h .groups) (suc p) bs u in
-            record {
-              gap = put [] (put bs (λ n. []));
-              blank = put-blank [] (put bs (λ n. [])) refl (put-blank bs (λ n. []) w (λ n. refl));
-              tokens = the-stop ∷ [];
-              text = ap (λ x. x ∷ bs) (eqb-true b 46 y);
-              course = at-stop g;
-            })
-          (λ y u. stuck u))
+      (λ y u.
+      let (w, g) = ended gs (h .groups) (suc p) bs u in
+      record {
+        gap = put [] (put bs (λ n. []));
+        blank = put-blank [] (put bs (λ n. [])) refl (put-blank bs (λ n. []) w (λ n. refl));
+        tokens = the-stop ∷ [];
+        text = ap (λ x. x ∷ bs) (eqb-true b 46 y);
+        course = at-stop g;
+      })
+      (λ y u. stuck u))
 
   by-phase : (h : Here) (due : List Bracket) (ph : Phase) → To (step h due ph b) → Claim gs h due ph (b ∷ bs)
   unfolding step

@@ -1,16 +1,23 @@
 -- The course of a file token by token: what the machine does at each, whatever white space stands between them. Assumes nothing.
 use mathlib.Core.Path.{_≡_}
-use mathlib.Core.Bool.{true}
-use mathlib.Core.List.{List, [], _∷_}
+use mathlib.Core.Bool.{Bool, true}
+use mathlib.Core.List.{List, [], _∷_, map}
 use Prim.Native.Nat.{ℕ, _<_}
 use lib.ListN.{length}
 use Rattle.tokens.specs.Reserved.{bytes}
-use Rattle.grammar.specs.File.{Group, kernel, Here, Sign, comma, open-list, close-list, open-tuple, close-tuple, Bracket, depth-limit, Use, key, name, node, Phase, sign, atom, first-pair, next-pair, first-group, next-group, kind, next-node, value, first, after, full-stop, goes, with-group, behind-kind, ended-pairs, Lead, to-sign, to-node, named}
+use Rattle.grammar.specs.File.{Group, Level, kernel, Here, Sign, comma, close-list, open-tuple, close-tuple, Bracket, depth-limit, Use, key, name, node, Phase, sign, atom, first-pair, next-pair, first-group, next-group, kind, next-node, value, first, after, full-stop, goes, with-group, behind-kind, ended-pairs, to-sign, to-node, named}
 use Rattle.spelling.specs.Spelling.{Form, Atom, Token, a-sign, an-atom, a-number, the-stop, good-atom, good-number, opener, closer, word}
+
+abbrev pub here : Level → Bool → List Group → Here
+here lv found gs = record { level = lv; found = found; groups = gs }
+
+-- the names of a group's nodes
+abbrev pub names : List Atom → List (List ℕ)
+names nodes = map (λ a. a .name) nodes
 
 -- behind the list of groups the kernel list has its own entry
 abbrev pub with-entry : Here → Here
-with-entry h = record { level = kernel; found = true; groups = h .groups }
+with-entry h = here kernel true (h .groups)
 
 -- from this state the tokens lead to the groups gs
 pub data Course (gs : List Group) : Here → List Bracket → Phase → List Token → Type 0 where

@@ -1,26 +1,18 @@
 -- The tokens of a course are those of a launch file. Assumes nothing.
-use mathlib.Core.Path.{_≡_, refl, sym, ap, _∙_}
-use mathlib.Core.Bool.{Bool, true, false, not, _&&_, cond}
+use mathlib.Core.Path.{_≡_, refl}
+use mathlib.Core.Bool.{Bool, true, false, cond}
 use mathlib.Core.List.{List, [], _∷_, _++_, append-assoc, append-nil, map}
-use Prim.Native.Nat.{ℕ, suc, _+_, _-_, _≤_, _<_, max}
+use Prim.Native.Nat.{ℕ, suc, _-_, _≤_, _<_}
 use native.Mathlib.Omega.{arith}
 use borrow.Author.Tests.{le-leb}
-use lib.Dec.{leb}
 use lib.ListN.{length}
 use Rattle.tokens.specs.Reserved.{bytes, same}
 use Rattle.tokens.specs.Words.{same-eq}
-use Rattle.grammar.specs.File.{Group, Level, file, kernel, Here, Sign, comma, open-list, close-list, open-tuple, close-tuple, Bracket, depth-limit, Use, key, name, node, Phase, sign, letters, atom, plain, quoted, first-pair, next-pair, first-group, next-group, kind, next-node, value, first, after, word, other, digits, full-stop, Move, goes, stops, dead, with-group, behind-kind, ended-pairs, keyed, named, Lead, to-sign, to-node, nowhere, enters, own-key}
-use Rattle.spelling.specs.Spelling.{Form, Atom, Value, atomic, numeric, nested, Values, no-more, item, Pair, Entry, Around, LaunchFile, group-of, groups-of, all, good-atom, good-number, good-value, good-values, depth, most-deep, good-pair, some-node, good-entry, good-around, well-formed, Token, a-sign, an-atom, a-number, the-stop, opener, closer, value-tokens, first-tokens, next-tokens, leading, trailing, separated, node-tokens, pair-tokens, entry-tokens, entries-tokens, around-tokens, file-tokens}
+use Rattle.grammar.specs.File.{Group, Level, file, kernel, Here, comma, open-list, close-list, open-tuple, close-tuple, Bracket, depth-limit, Use, key, name, node, Phase, sign, letters, atom, plain, quoted, first-pair, next-pair, first-group, next-group, kind, next-node, value, first, after, word, other, digits, full-stop, Move, goes, stops, dead, with-group, behind-kind, ended-pairs, keyed, named, Lead, to-sign, to-node, nowhere, enters, own-key}
+use Rattle.spelling.specs.Tests.{also}
+use Rattle.spelling.specs.Spelling.{Form, Atom, Value, atomic, numeric, nested, Values, no-more, item, Pair, Entry, LaunchFile, group-of, groups-of, all, good-atom, good-value, good-values, depth, most-deep, good-pair, some-node, good-entry, good-around, well-formed, Token, a-sign, an-atom, the-stop, opener, closer, value-tokens, first-tokens, next-tokens, leading, trailing, separated, node-tokens, pair-tokens, entry-tokens, entries-tokens, around-tokens, file-tokens}
 use Rattle.spelling.specs.Spelling as Spelling
-use Rattle.spelling.specs.Course.{with-entry, Course, at-sign, at-atom, at-node, one-pair, no-pair, more-pairs, end-pairs, one-group, no-group, more-groups, end-groups, at-kind, more-nodes, end-nodes, value-atom, value-number, value-opens, first-value, first-closes, more-values, value-closes, pair-closes, at-stop}
-
--- both tests hold
-pub also : {a b : Bool} → a ≡ true → b ≡ true → (a && b) ≡ true
-also x y = rw (x, y)
-
--- the names of a group's nodes
-abbrev names : List Atom → List (List ℕ)
-names nodes = map (λ a. a .name) nodes
+use Rattle.spelling.specs.Course.{here, with-entry, names, Course, at-sign, at-atom, at-node, one-pair, no-pair, more-pairs, end-pairs, one-group, no-group, more-groups, end-groups, at-kind, more-nodes, end-nodes, value-atom, value-number, value-opens, first-value, first-closes, more-values, value-closes, pair-closes, at-stop}
 
 module _ (gs : List Group) where
   -- ---- what is left of a file
@@ -139,9 +131,6 @@ module _ (gs : List Group) where
   Moved dead ts = ⊥
 
   -- ---- atoms
-
-  abbrev here : Level → Bool → List Group → Here
-  here lv fd hs = record { level = lv; found = fd; groups = hs }
 
   pair-is : (own : List ℕ) (a : Atom) (v : Value) → good-atom a ≡ true → same (a .name) own ≡ false → good-value v ≡ true → depth v ≤ depth-limit - 0 → good-pair own (record { key = a; value = v }) ≡ true
   unfolding good-pair
@@ -274,6 +263,9 @@ module _ (gs : List Group) where
   course-parsed ts r = whole (parsed r)
     where
       whole : Parsed (here file false []) [] (sign open-list first-pair) ts → (f : LaunchFile) × (well-formed f ≡ true) × (ts ≡ file-tokens f) × (groups-of f ≡ gs)
-      whole (us, e, (ps, q, vs, f, e₁, (ps₁, q₁, ws, f₁, e₂, (es, xs, f₂, e₃, (ps₂, ys, f₃, e₄, (zs, e₅, (ps₃, as₁, f₄, e₆, (e₇, g)))))))) =
-          (record { outer = record { before = ps; form = q; behind = ps₃ }; inner = record { before = ps₁; form = q₁; behind = ps₂ }; entries = es },
-          also (also f f₄) (also (also f₁ f₃) f₂), rw (e, e₁, e₂, e₃, e₄, e₅, e₆, e₇), g)
+      whole (us, e, (ps, q, vs, f, e₁, (ps₁, q₁, ws, f₁, e₂, (es, xs, f₂, e₃, (ps₂, ys, f₃, e₄, (zs, e₅, (ps₃, as₁, f₄, e₆, (e₇, g)))))))) = (
+        record { outer = record { before = ps; form = q; behind = ps₃ }; inner = record { before = ps₁; form = q₁; behind = ps₂ }; entries = es },
+        also (also f f₄) (also (also f₁ f₃) f₂),
+        rw (e, e₁, e₂, e₃, e₄, e₅, e₆, e₇),
+        g,
+      )

@@ -10,10 +10,11 @@ use Rattle.grammar.specs.File.{Group, Sign, comma, open-list, close-list, open-
 
 -- ---- terms
 
--- an atom is written as it is, or in quotes
+-- how an atom is written: as it is, or in quotes
 pub data Form : Type 0 where
   bare in-quotes : Form
 
+-- an atom, with the bytes of its name
 pub record Atom : Type 0 where
   pub form : Form
   pub name : List ℕ
@@ -29,30 +30,30 @@ mutual
     no-more : Values
     item : Value → Values → Values
 
--- {Key, Value}
+-- a pair that is skipped: {Key, Value}
 pub record Pair : Type 0 where
   pub key : Atom
   pub value : Value
 
--- {Name, normal, [Node, ..]}: `normal` may be in quotes too
+-- a group: {Name, normal, [Node, ..]}, where `normal` may be in quotes too
 pub record Entry : Type 0 where
   pub name : Atom
   pub normal : Form
   pub nodes : List Atom
 
--- the pairs around the one whose value is read, and how the key of that one is written
+-- a list of pairs: those in front of the one whose value is read, how the key of that one is written, and those behind it
 pub record Around : Type 0 where
   pub before : List Pair
   pub form : Form
   pub behind : List Pair
 
--- [.., {kernel, [.., {s_groups, [Entry, ..]}, ..]}, ..].
+-- a file: [.., {kernel, [.., {s_groups, [Entry, ..]}, ..]}, ..].
 pub record LaunchFile : Type 0 where
   pub outer : Around
   pub inner : Around
   pub entries : List Entry
 
--- its groups
+-- the groups of a file, by their names
 abbrev pub group-of : Entry → Group
 group-of e = record { name = e .name .name; nodes = map (λ a. a .name) (e .nodes) }
 
@@ -66,7 +67,7 @@ unfoldable pub all {ℓ} : {A : Type ℓ} → (A → Bool) → List A → Bool
 all f [] = true
 all f (x ∷ xs) = f x && all f xs
 
--- without quotes a name begins with a small letter, goes on with letters, digits, _ and @, and is no reserved word
+-- without quotes a name begins with a small letter, goes on with letters, digits, _ and @, and is no reserved word; in quotes it is any bytes but ' and \
 unfoldable pub well-named : Form → List ℕ → Bool
 well-named bare [] = false
 well-named bare (b ∷ bs) = small b && (all name-byte bs && not (is-reserved (b ∷ bs)))
@@ -80,6 +81,7 @@ unfoldable pub good-number : List ℕ → Bool
 good-number [] = false
 good-number (d ∷ ds) = digit d && all digit ds
 
+-- the atoms and numbers of a value are good
 unfoldable mutual
   pub good-value : Value → Bool
   good-value (atomic a) = good-atom a
@@ -101,7 +103,7 @@ unfoldable mutual
   most-deep no-more = 0
   most-deep (item v vs) = max (depth v) (most-deep vs)
 
--- a pair that is skipped: its key is another than that of the pair which is read
+-- a pair that is skipped has another key than the one that is read, and a value no deeper than the limit
 unfoldable pub good-pair : List ℕ → Pair → Bool
 good-pair own p = (good-atom (p .key) && not (same (p .key .name) own)) && (good-value (p .value) && leb (depth (p .value)) depth-limit)
 
@@ -110,17 +112,21 @@ unfoldable pub some-node : List Atom → Bool
 some-node [] = false
 some-node (a ∷ rest) = true
 
+-- a group: its name and its nodes
 unfoldable pub good-entry : Entry → Bool
 good-entry e = good-atom (e .name) && (some-node (e .nodes) && all good-atom (e .nodes))
 
+-- a list of pairs, of which the one with this key is read
 unfoldable pub good-around : List ℕ → Around → Bool
 good-around own l = all (good-pair own) (l .before) && all (good-pair own) (l .behind)
 
+-- a launch file: the key of each list stands once
 unfoldable pub well-formed : LaunchFile → Bool
 well-formed f = good-around (bytes "kernel") (f .outer) && (good-around (bytes "s_groups") (f .inner) && all good-entry (f .entries))
 
 -- ---- tokens: those of each part, and ts behind them
 
+-- a token: a sign, an atom, a number with these digits, or the full stop
 pub data Token : Type 0 where
   a-sign : Sign → Token
   an-atom : Atom → Token
@@ -136,6 +142,7 @@ abbrev pub closer : Bracket → Sign
 closer list = close-list
 closer tuple = close-tuple
 
+-- an atom, a number, [V, ..] or {V, ..}
 unfoldable mutual
   pub value-tokens : Value → List Token → List Token
   value-tokens (atomic a) ts = an-atom a ∷ ts
@@ -170,36 +177,43 @@ module _ {A : Type 0} (part : A → List Token → List Token) where
 abbrev pub word : Form → List ℕ → Token
 word q n = an-atom (record { form = q; name = n })
 
+-- Node
 abbrev pub node-tokens : Atom → List Token → List Token
 node-tokens a ts = an-atom a ∷ ts
 
+-- {Key, Value}
 unfoldable pub pair-tokens : Pair → List Token → List Token
-pair-tokens p ts = a-sign open-tuple ∷ (an-atom (p .key) ∷ (a-sign comma ∷ value-tokens (p .value) (a-sign close-tuple ∷ ts)))
+pair-tokens p ts = a-sign open-tuple ∷ an-atom (p .key) ∷ a-sign comma ∷ value-tokens (p .value) (a-sign close-tuple ∷ ts)
 
+-- {Name, normal, [Node, ..]}
 unfoldable pub entry-tokens : Entry → List Token → List Token
 entry-tokens e ts =
-    a-sign open-tuple ∷ (an-atom (e .name) ∷ (a-sign comma ∷ (word (e .normal) (bytes "normal") ∷ (a-sign comma ∷ (a-sign open-list ∷
-    separated node-tokens (e .nodes) (a-sign close-list ∷ (a-sign close-tuple ∷ ts)))))))
+    a-sign open-tuple ∷ an-atom (e .name) ∷ a-sign comma ∷ word (e .normal) (bytes "normal") ∷ a-sign comma
+    ∷ a-sign open-list ∷ separated node-tokens (e .nodes) (a-sign close-list ∷ a-sign close-tuple ∷ ts)
 
+-- [Entry, ..]
 unfoldable pub entries-tokens : List Entry → List Token → List Token
 entries-tokens es ts = a-sign open-list ∷ separated entry-tokens es (a-sign close-list ∷ ts)
 
--- a list of pairs in which the one with the given key has the tokens of its value from elsewhere
+-- [Pair, .., {own, V}, Pair, ..], where V has the tokens that are given
 unfoldable pub around-tokens : List ℕ → Around → (List Token → List Token) → List Token → List Token
 around-tokens own l value ts =
     a-sign open-list ∷ leading pair-tokens (l .before)
-    (a-sign open-tuple ∷ (word (l .form) own ∷ (a-sign comma ∷ value
-    (a-sign close-tuple ∷ trailing pair-tokens (l .behind) (a-sign close-list ∷ ts)))))
+    (a-sign open-tuple ∷ word (l .form) own ∷ a-sign comma ∷ value
+    (a-sign close-tuple ∷ trailing pair-tokens (l .behind) (a-sign close-list ∷ ts)))
 
+-- the whole file, with its full stop
 unfoldable pub file-tokens : LaunchFile → List Token
 file-tokens f = around-tokens (bytes "kernel") (f .outer) (around-tokens (bytes "s_groups") (f .inner) (entries-tokens (f .entries))) (the-stop ∷ [])
 
 -- ---- bytes
 
+-- an atom: Name or 'Name'
 abbrev pub atom-bytes : Form → List ℕ → List ℕ
 atom-bytes bare n = n
 atom-bytes in-quotes n = quote ∷ (n ++ (quote ∷ []))
 
+-- a token
 unfoldable pub token-bytes : Token → List ℕ
 token-bytes (a-sign c) = ascii c ∷ []
 token-bytes (an-atom a) = atom-bytes (a .form) (a .name)
@@ -210,10 +224,11 @@ token-bytes the-stop = 46 ∷ []
 abbrev pub Blank : (ℕ → List ℕ) → Type 0
 Blank gap = (n : ℕ) → all white (gap n) ≡ true
 
--- the tokens, with the white space of this number in front of each, and the next behind the last
+-- tokens, with white space in front of each, and behind the last: gap n is in front of the token n, counted from 0
 unfoldable pub spaced : (ℕ → List ℕ) → List Token → List ℕ
 spaced gap [] = gap 0
 spaced gap (t ∷ ts) = gap 0 ++ (token-bytes t ++ spaced (λ n. gap (suc n)) ts)
 
+-- the text of a file
 unfoldable pub spell : (ℕ → List ℕ) → LaunchFile → List ℕ
 spell gap f = spaced gap (file-tokens f)

@@ -1,19 +1,20 @@
 -- Every spelling of a launch file is taken, with the file's groups. Assumes nothing.
-use mathlib.Core.Path.{_≡_, refl, sym, ap, _∙_}
-use mathlib.Core.Bool.{Bool, true, false, not, _&&_, cond}
+use mathlib.Core.Path.{_≡_, refl, sym}
+use mathlib.Core.Bool.{true, false, not, _&&_}
 use mathlib.Core.List.{List, [], _∷_, _++_, append-assoc, append-nil, map}
-use Prim.Native.Nat.{ℕ, zero, suc, _+_, _≤_, _<_, max}
+use Prim.Native.Nat.{ℕ, suc, _+_, _≤_}
 use native.Mathlib.Omega.{arith}
 use borrow.Author.Tests.{leb-true, lt-leb, ne-eqb}
-use lib.Dec.{eqb, leb}
+use lib.Dec.{leb}
 use lib.ListN.{length}
 use Rattle.tokens.specs.Bytes.{white, name-byte}
 use Rattle.tokens.specs.Reserved.{bytes, same, is-reserved, among, reserved-words}
-use Rattle.grammar.specs.File.{Group, Level, file, kernel, Here, Sign, comma, open-list, close-list, open-tuple, close-tuple, ascii, Bracket, list, tuple, depth-limit, Use, key, name, node, Phase, sign, atom, first-pair, next-pair, first-group, next-group, kind, next-node, value, first, after, full-stop, with-group, goes, stops, dead, reads, ended-pairs, ends-pairs, keyed, named, node-next, opens, begins, closes, separates, follows, Lead, to-sign, to-node, own-key, step, Outcome, taken, refused, ends, onward, rest, outcome}
+use Rattle.grammar.specs.File.{Group, Level, file, kernel, Here, Sign, comma, open-list, close-list, open-tuple, close-tuple, ascii, Bracket, list, tuple, depth-limit, key, name, node, Phase, sign, atom, first-pair, next-pair, first-group, next-group, next-node, value, first, after, full-stop, with-group, goes, reads, ended-pairs, ends-pairs, keyed, named, node-next, closes, separates, follows, to-sign, own-key, step, taken, ends, rest, outcome}
 use Rattle.grammar.specs.File as File
-use Rattle.spelling.specs.Spelling.{Form, bare, in-quotes, Atom, Value, atomic, numeric, nested, Values, no-more, item, Pair, Entry, Around, LaunchFile, group-of, groups-of, all, well-named, good-atom, good-number, good-value, good-values, depth, most-deep, good-pair, some-node, good-entry, good-around, well-formed, Token, a-sign, an-atom, a-number, the-stop, opener, closer, value-tokens, first-tokens, next-tokens, leading, trailing, separated, word, node-tokens, pair-tokens, entry-tokens, entries-tokens, around-tokens, file-tokens, atom-bytes, token-bytes, Blank, spaced, spell}
-use Rattle.spelling.specs.Course.{with-entry, Course, at-sign, at-atom, at-node, one-pair, no-pair, more-pairs, end-pairs, one-group, no-group, more-groups, end-groups, at-kind, more-nodes, end-nodes, value-atom, value-number, value-opens, first-value, first-closes, more-values, value-closes, pair-closes, at-stop}
-use Rattle.spelling.specs.Takes.{Takes, both, unless, past-white, past-sign, apart, Led, past-atom, past-kind, past-value-atom, past-number, past-opener, past-closer, first-closer, as-first}
+use Rattle.spelling.specs.Tests.{both, unless}
+use Rattle.spelling.specs.Spelling.{Form, bare, in-quotes, Atom, Value, atomic, numeric, nested, Values, no-more, item, Pair, Entry, Around, LaunchFile, group-of, groups-of, all, well-named, good-atom, good-value, good-values, depth, most-deep, good-pair, some-node, good-entry, good-around, well-formed, Token, a-sign, the-stop, closer, value-tokens, first-tokens, next-tokens, leading, trailing, separated, node-tokens, pair-tokens, entry-tokens, entries-tokens, around-tokens, file-tokens, token-bytes, Blank, spaced, spell}
+use Rattle.spelling.specs.Course.{here, with-entry, names, Course, at-sign, at-atom, at-node, one-pair, no-pair, more-pairs, end-pairs, one-group, no-group, more-groups, end-groups, at-kind, more-nodes, end-nodes, value-atom, value-number, value-opens, first-value, first-closes, more-values, value-closes, pair-closes, at-stop}
+use Rattle.spelling.specs.Takes.{Takes, past-white, past-sign, apart, past-atom, past-kind, past-value-atom, past-number, past-opener, past-closer, first-closer, as-first}
 
 -- ---- a course is taken, whatever white space stands between its tokens
 
@@ -60,6 +61,13 @@ spaced-out {gs} {h} {due} {ph} {ts} r k gap bl p = rw (split ts) (past-white gs 
     split [] = sym (append-nil (gap 0))
     split (t ∷ us) = refl
 
+-- the white space behind the first token
+abbrev later : (ℕ → List ℕ) → ℕ → List ℕ
+later gap n = gap (suc n)
+
+behind : {gs : List Group} {h : Here} {due : List Bracket} {ph : Phase} {ts : List Token} → Course gs h due ph ts → Reads gs h due ph ts → (gap : ℕ → List ℕ) → Blank gap → Takes gs h due ph (spaced (later gap) ts)
+behind r k gap bl = spaced-out r k (later gap) (λ n. bl (suc n))
+
 -- no token that follows an atom or a number goes on with it
 blank-apart : (b : ℕ) → white b ≡ true → name-byte b ≡ false
 unfolding name-byte
@@ -91,10 +99,6 @@ value-apart (more-values r) gap bl = signs-apart (gap 0) comma _ (bl 0)
 value-apart (value-closes {k = k} r) gap bl = signs-apart (gap 0) (closer k) _ (bl 0)
 value-apart (pair-closes r) gap bl = signs-apart (gap 0) close-tuple _ (bl 0)
 
--- the white space behind the first token
-abbrev later : (ℕ → List ℕ) → ℕ → List ℕ
-later gap n = gap (suc n)
-
 -- behind the full stop there is white space alone
 all-ends : (gs : List Group) (p : ℕ) (w : List ℕ) → all white w ≡ true → ends gs p w ≡ taken gs
 unfolding ends all
@@ -111,38 +115,38 @@ next-value h due list = refl
 next-value h due tuple = refl
 
 -- one byte
-one-byte : (gs : List Group) (h : Here) (due : List Bracket) (ph : Phase) (b : ℕ) (g : Here) (d : List Bracket) (f : Phase) (s : List ℕ) → step h due ph b ≡ goes g d f → Takes gs g d f s → Takes gs h due ph (b ∷ s)
+one-byte : {gs : List Group} {g : Here} {d : List Bracket} {f : Phase} (h : Here) (due : List Bracket) (ph : Phase) (b : ℕ) (s : List ℕ) → step h due ph b ≡ goes g d f → Takes gs g d f s → Takes gs h due ph (b ∷ s)
 unfolding rest
-one-byte gs h due ph b g d f s e k p = rw e (k (suc p))
+one-byte h due ph b s e k p = rw e (k (suc p))
 
 taken-close : {gs : List Group} {h : Here} {due : List Bracket} {ph : Phase} {ts : List Token} → Course gs h due ph ts → Reads gs h due ph ts
 unfolding close-up spaced token-bytes step reads File.spaced ends-pairs node-next follows separates closes
-taken-close (at-sign {h = h} {c = c} {ph = ph} r) gap bl = past-sign _ h c ph _ (spaced-out r (λ w b p. taken-close r w b p) (later gap) (λ n. bl (suc n)))
+taken-close (at-sign {h = h} {c = c} {ph = ph} r) gap bl = past-sign _ h c ph _ (behind r (λ w b p. taken-close r w b p) gap bl)
 taken-close (at-atom {h = h} {u = u} a f l r) gap bl =
-    past-atom _ h u (a .form) (a .name) _ f (sign-apart r (later gap) (λ n. bl (suc n))) (rw l (spaced-out r (λ w b p. taken-close r w b p) (later gap) (λ n. bl (suc n))))
+    past-atom _ h u (a .form) (a .name) _ f (sign-apart r (later gap) (λ n. bl (suc n))) (rw l (behind r (λ w b p. taken-close r w b p) gap bl))
 taken-close (at-node {h = h} {u = u} a f l r) gap bl =
-    past-atom _ h u (a .form) (a .name) _ f (node-apart r (later gap) (λ n. bl (suc n))) (rw l (spaced-out r (λ w b p. taken-close r w b p) (later gap) (λ n. bl (suc n))))
-taken-close (one-pair r) gap bl = one-byte _ _ _ _ _ _ _ _ _ refl (spaced-out r (λ w b p. taken-close r w b p) (later gap) (λ n. bl (suc n)))
-taken-close (no-pair f l r) gap bl = one-byte _ _ _ _ _ _ _ _ _ (rw (f, l)) (spaced-out r (λ w b p. taken-close r w b p) (later gap) (λ n. bl (suc n)))
-taken-close (more-pairs r) gap bl = one-byte _ _ _ _ _ _ _ _ _ refl (spaced-out r (λ w b p. taken-close r w b p) (later gap) (λ n. bl (suc n)))
-taken-close (end-pairs f l r) gap bl = one-byte _ _ _ _ _ _ _ _ _ (rw (f, l)) (spaced-out r (λ w b p. taken-close r w b p) (later gap) (λ n. bl (suc n)))
-taken-close (one-group r) gap bl = one-byte _ _ _ _ _ _ _ _ _ refl (spaced-out r (λ w b p. taken-close r w b p) (later gap) (λ n. bl (suc n)))
-taken-close (no-group r) gap bl = one-byte _ _ _ _ _ _ _ _ _ refl (spaced-out r (λ w b p. taken-close r w b p) (later gap) (λ n. bl (suc n)))
-taken-close (more-groups r) gap bl = one-byte _ _ _ _ _ _ _ _ _ refl (spaced-out r (λ w b p. taken-close r w b p) (later gap) (λ n. bl (suc n)))
-taken-close (end-groups r) gap bl = one-byte _ _ _ _ _ _ _ _ _ refl (spaced-out r (λ w b p. taken-close r w b p) (later gap) (λ n. bl (suc n)))
-taken-close (at-kind {h = h} {n = n} q r) gap bl = past-kind _ h n q _ (spaced-out r (λ w b p. taken-close r w b p) (later gap) (λ n. bl (suc n)))
-taken-close (more-nodes r) gap bl = one-byte _ _ _ _ _ _ _ _ _ refl (spaced-out r (λ w b p. taken-close r w b p) (later gap) (λ n. bl (suc n)))
-taken-close (end-nodes r) gap bl = one-byte _ _ _ _ _ _ _ _ _ refl (spaced-out r (λ w b p. taken-close r w b p) (later gap) (λ n. bl (suc n)))
+    past-atom _ h u (a .form) (a .name) _ f (node-apart r (later gap) (λ n. bl (suc n))) (rw l (behind r (λ w b p. taken-close r w b p) gap bl))
+taken-close (one-pair r) gap bl = one-byte _ _ _ _ _ refl (behind r (λ w b p. taken-close r w b p) gap bl)
+taken-close (no-pair f l r) gap bl = one-byte _ _ _ _ _ (rw (f, l)) (behind r (λ w b p. taken-close r w b p) gap bl)
+taken-close (more-pairs r) gap bl = one-byte _ _ _ _ _ refl (behind r (λ w b p. taken-close r w b p) gap bl)
+taken-close (end-pairs f l r) gap bl = one-byte _ _ _ _ _ (rw (f, l)) (behind r (λ w b p. taken-close r w b p) gap bl)
+taken-close (one-group r) gap bl = one-byte _ _ _ _ _ refl (behind r (λ w b p. taken-close r w b p) gap bl)
+taken-close (no-group r) gap bl = one-byte _ _ _ _ _ refl (behind r (λ w b p. taken-close r w b p) gap bl)
+taken-close (more-groups r) gap bl = one-byte _ _ _ _ _ refl (behind r (λ w b p. taken-close r w b p) gap bl)
+taken-close (end-groups r) gap bl = one-byte _ _ _ _ _ refl (behind r (λ w b p. taken-close r w b p) gap bl)
+taken-close (at-kind {h = h} {n = n} q r) gap bl = past-kind _ h n q _ (behind r (λ w b p. taken-close r w b p) gap bl)
+taken-close (more-nodes r) gap bl = one-byte _ _ _ _ _ refl (behind r (λ w b p. taken-close r w b p) gap bl)
+taken-close (end-nodes r) gap bl = one-byte _ _ _ _ _ refl (behind r (λ w b p. taken-close r w b p) gap bl)
 taken-close (value-atom {h = h} {due = due} a f r) gap bl =
-    past-value-atom _ h due (a .form) (a .name) _ f (value-apart r (later gap) (λ n. bl (suc n))) (spaced-out r (λ w b p. taken-close r w b p) (later gap) (λ n. bl (suc n)))
+    past-value-atom _ h due (a .form) (a .name) _ f (value-apart r (later gap) (λ n. bl (suc n))) (behind r (λ w b p. taken-close r w b p) gap bl)
 taken-close (value-number {h = h} {due = due} ds f r) gap bl =
-    past-number _ h due ds _ f (value-apart r (later gap) (λ n. bl (suc n))) (spaced-out r (λ w b p. taken-close r w b p) (later gap) (λ n. bl (suc n)))
-taken-close (value-opens {h = h} {due = due} k l r) gap bl = past-opener _ h due k _ l (spaced-out r (λ w b p. taken-close r w b p) (later gap) (λ n. bl (suc n)))
+    past-number _ h due ds _ f (value-apart r (later gap) (λ n. bl (suc n))) (behind r (λ w b p. taken-close r w b p) gap bl)
+taken-close (value-opens {h = h} {due = due} k l r) gap bl = past-opener _ h due k _ l (behind r (λ w b p. taken-close r w b p) gap bl)
 taken-close (first-value {h = h} {due = due} r) gap bl = λ p. as-first _ h due _ p (taken-close r gap bl p)
-taken-close (first-closes {h = h} {k = k} {due = due} r) gap bl = first-closer _ h due k _ (spaced-out r (λ w b p. taken-close r w b p) (later gap) (λ n. bl (suc n)))
-taken-close (more-values {k = k} r) gap bl = one-byte _ _ _ _ _ _ _ _ _ (next-value _ _ k) (spaced-out r (λ w b p. taken-close r w b p) (later gap) (λ n. bl (suc n)))
-taken-close (value-closes {h = h} {k = k} {due = due} r) gap bl = past-closer _ h due k _ (spaced-out r (λ w b p. taken-close r w b p) (later gap) (λ n. bl (suc n)))
-taken-close (pair-closes r) gap bl = one-byte _ _ _ _ _ _ _ _ _ refl (spaced-out r (λ w b p. taken-close r w b p) (later gap) (λ n. bl (suc n)))
+taken-close (first-closes {h = h} {k = k} {due = due} r) gap bl = first-closer _ h due k _ (behind r (λ w b p. taken-close r w b p) gap bl)
+taken-close (more-values {k = k} r) gap bl = one-byte _ _ _ _ _ (next-value _ _ k) (behind r (λ w b p. taken-close r w b p) gap bl)
+taken-close (value-closes {h = h} {k = k} {due = due} r) gap bl = past-closer _ h due k _ (behind r (λ w b p. taken-close r w b p) gap bl)
+taken-close (pair-closes r) gap bl = one-byte _ _ _ _ _ refl (behind r (λ w b p. taken-close r w b p) gap bl)
 taken-close (at-stop {h = h} f) gap bl = stopped h f (gap 1) (bl 1)
 
 -- ---- a term's tokens have a course
@@ -205,9 +209,6 @@ module _ (gs : List Group) (h : Here) where
       pair-course p (a-sign comma ∷ leading pair-tokens ps ts) x (more-pairs (before-course ps ts y r))
 
 -- the nodes of a group
-abbrev names : List Atom → List (List ℕ)
-names nodes = map (λ a. a .name) nodes
-
 module _ (gs : List Group) (h : Here) (n : List ℕ) where
   nodes-next : (ns : List (List ℕ)) (nodes : List Atom) (ts : List Token) → all good-atom nodes ≡ true → Course gs (with-group h n (ns ++ names nodes)) [] next-group ts
       → Course gs h [] (next-node n ns) (trailing node-tokens nodes (a-sign close-list ∷ (a-sign close-tuple ∷ ts)))
@@ -254,9 +255,7 @@ module _ (gs : List Group) where
       let j : (h .groups ++ (group-of e ∷ [])) ++ map group-of es ≡ h .groups ++ (group-of e ∷ map group-of es) = append-assoc (h .groups) (group-of e ∷ []) (map group-of es) in
       at-sign (first-of-groups (entry-course h e (trailing entry-tokens es (a-sign close-list ∷ ts)) x (entries-next (grouped h (e ∷ [])) es ts y (rw j r))))
 
--- the pairs around the one that is read, behind its value
-abbrev here : Level → Bool → List Group → Here
-here lv found gs = record { level = lv; found = found; groups = gs }
+-- ---- the two lists of pairs
 
 own-good : (q : Form) (lv : Level) → well-named q (own-key lv) ≡ true
 unfolding well-named all name-byte is-reserved among reserved-words
@@ -267,15 +266,15 @@ own-good in-quotes kernel = refl
 
 -- the list of pairs of a level, given the course of the value that is read
 module _ (gs : List Group) (lv : Level) (l : Around) (value : List Token → List Token) where
-  around-course : (own hs : List Group) (g : Here) (ph next : Phase) (ts : List Token) → good-around (own-key lv) l ≡ true → named (here lv false own) key (own-key lv) ≡ to-sign g comma next
-      → ((us : List Token) → Course gs (here lv true hs) [] (sign close-tuple next-pair) us → Course gs g [] next (value us))
-      → ended-pairs lv hs ≡ goes (here file true hs) [] ph → Course gs (here file true hs) [] ph ts
-      → Course gs (here lv false own) [] (sign open-list first-pair) (around-tokens (own-key lv) l value ts)
+  around-course : (was now : List Group) (g : Here) (ph next : Phase) (ts : List Token) → good-around (own-key lv) l ≡ true → named (here lv false was) key (own-key lv) ≡ to-sign g comma next
+      → ((us : List Token) → Course gs (here lv true now) [] (sign close-tuple next-pair) us → Course gs g [] next (value us))
+      → ended-pairs lv now ≡ goes (here file true now) [] ph → Course gs (here file true now) [] ph ts
+      → Course gs (here lv false was) [] (sign open-list first-pair) (around-tokens (own-key lv) l value ts)
   unfolding good-around around-tokens
-  around-course own hs g ph next ts f e k d r =
+  around-course was now g ph next ts f e k d r =
       let (x, y) = both (all (good-pair (own-key lv)) (l .before)) (all (good-pair (own-key lv)) (l .behind)) f in
-      at-sign (first-of-pairs (before-course gs (here lv false own) (l .before) _ x
-      (at-sign (at-atom _ (own-good (l .form) lv) e (at-sign (k _ (at-sign (behind-course gs (here lv true hs) (l .behind) _ y (end-pairs refl d r)))))))))
+      at-sign (first-of-pairs (before-course gs (here lv false was) (l .before) _ x
+      (at-sign (at-atom _ (own-good (l .form) lv) e (at-sign (k _ (at-sign (behind-course gs (here lv true now) (l .behind) _ y (end-pairs refl d r)))))))))
 
 file-course : (f : LaunchFile) → well-formed f ≡ true → Course (groups-of f) (here file false []) [] (sign open-list first-pair) (file-tokens f)
 unfolding well-formed file-tokens named keyed

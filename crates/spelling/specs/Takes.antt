@@ -1,29 +1,21 @@
 -- What the machine takes behind each token. Assumes nothing.
-use mathlib.Core.Path.{_≡_, refl, sym, ap, _∙_}
+use mathlib.Core.Path.{_≡_, refl}
 use mathlib.Core.Bool.{Bool, true, false, not, _&&_, _||_, cond}
 use mathlib.Core.List.{List, [], _∷_, _++_, append-assoc, append-nil}
 use Prim.Native.Nat.{ℕ, suc, _≤_, _<_}
 use native.Mathlib.Omega.{arith}
 use borrow.Author.Tests.{leb-true, lt-leb, lt-ltb, eqb-true, ne-eqb}
-use lib.Dec.{eqb, leb, ltb}
+use lib.Dec.{eqb, leb}
 use lib.ListN.{length}
 use Rattle.tokens.specs.Bytes.{within, quote, white, digit, small, name-byte, plain-byte}
 use Rattle.tokens.specs.Reserved.{bytes, is-reserved}
-use Rattle.grammar.specs.File.{Group, Here, Sign, comma, open-list, close-list, open-tuple, close-tuple, ascii, Bracket, list, tuple, closing, depth-limit, Use, key, name, node, Phase, sign, letters, atom, plain, quoted, first-pair, next-pair, first-group, next-group, kind, next-node, value, first, after, word, other, digits, full-stop, Move, goes, stops, dead, spaced, reads, ends-pairs, ended-pairs, node-next, behind-kind, behind-word, behind-quote, opens, begins, closes, separates, follows, Lead, to-sign, to-node, nowhere, named, step, Outcome, taken, refused, ends, onward, rest}
+use Rattle.grammar.specs.File.{Group, Here, Sign, comma, open-list, close-list, open-tuple, close-tuple, ascii, Bracket, list, tuple, closing, depth-limit, Use, Phase, sign, atom, plain, quoted, kind, next-node, value, first, after, word, other, digits, Move, goes, dead, spaced, reads, behind-kind, behind-word, behind-quote, opens, begins, closes, follows, Lead, to-sign, to-node, nowhere, named, step, Outcome, taken, refused, ends, onward, rest}
+use Rattle.spelling.specs.Tests.{both, unless}
 use Rattle.spelling.specs.Spelling.{Form, bare, in-quotes, atom-bytes, all, well-named, good-number, opener, closer}
 
 -- the machine takes a text from this state, wherever it begins
 abbrev pub Takes : List Group → Here → List Bracket → Phase → List ℕ → Type 0
 Takes gs h due ph s = (p : ℕ) → rest h due ph p s ≡ taken gs
-
-pub both : (a b : Bool) → (a && b) ≡ true → (a ≡ true) × (b ≡ true)
-both true b h = (refl, h)
-both false b h = absurd (let z : _≡_ {A = ℕ} 0 1 = cc in omega arith)
-
--- a test that does not hold
-pub unless : (a : Bool) → not a ≡ true → a ≡ false
-unless true h = absurd (let z : _≡_ {A = ℕ} 0 1 = cc in omega arith)
-unless false h = refl
 
 -- ---- white space, signs
 
@@ -124,7 +116,7 @@ past-kind gs h n in-quotes s k p = k _
 
 -- ---- skipped values
 
--- behind a value the machine is where the text says
+-- a plain atom of which w is read, where it ends and from there on; the same for a quoted one and for a number
 word-ended : (gs : List Group) (h : Here) (due : List Bracket) (w s : List ℕ) → is-reserved w ≡ false → apart s ≡ true → Takes gs h due after s → Takes gs h due (word w) s
 unfolding rest step apart
 word-ended gs h due w [] r e k p = k p

@@ -1,6 +1,5 @@
--- A function that makes a reader of a text, moves it to a place and asks it, whichever function of a reader it asks: a walk of its MIR, by hand. All that the proof knows of the three that it calls is that each meets its contract.
--- The machine value that a call returns is stored and passed on as it is. In a local of a body MIR erases the lifetime of the struct's type, so the value is shown to have the type at `erased`: what the struct owns does not say the lifetime's name.
--- Assumes nothing.
+-- A function that makes a reader of a text, moves it to a place and asks it, whichever function it asks: a walk of its MIR, by hand. All that is known of the three that it calls is that each meets its contract.
+-- A local's type has its lifetime erased: the value is shown to have that type, since what the struct owns does not say the lifetime's name. Assumes nothing.
 use mathlib.Core.Path.{_≡_, refl, _∙_}
 use Prim.Native.Nat.{ℕ, _<_, _^_}
 use mathlib.Core.List.{List, [], _∷_}
@@ -39,7 +38,8 @@ use Rattle.reader.proofs.Reader as T
 use Rattle.reader.proofs.Reader.Laws as T′
 use Rattle.position.proofs.line as of-text
 use Rattle.reader.proofs.line as of-reader
-use Rattle.reader.proofs.Asked.{B, clauses, text-clauses}
+use Rattle.reader.proofs.Held.{B}
+use Rattle.reader.proofs.Asked.{clauses, text-clauses}
 use Rattle.reader.proofs.new as new
 use Rattle.reader.proofs.new.Symbol.{name as #reader·new}
 use Rattle.reader.proofs.moved as moved

@@ -1,0 +1,51 @@
+// A reader: the text of a launch file together with a place in it, which messages name. The borrow checker covers no function
+// over such a struct, so each is thin, takes the struct apart for a covered function, and is proved by hand.
+ghost use mathlib.Core.Path.{_≡_};
+ghost use Rattle.position.specs.Position.{line-of, column-of};
+
+pub struct Reader<'a> {
+    pub text: &'a [u8],
+    pub at: usize,
+}
+
+// A reader at the start of a text.
+pub fn new<'a>(text: &'a [u8]) -> Reader<'a>
+    ensures { λ r. ⌜ (r .text ≡ text .entry) × (r .at ≡ 0) ⌝ }
+{
+    Reader { text, at: 0 }
+}
+
+// The same text at another place.
+pub fn moved<'a>(r: Reader<'a>, at: usize) -> Reader<'a>
+    ensures { λ q. ⌜ (q .text ≡ r .entry .text) × (q .at ≡ at) ⌝ }
+{
+    Reader { text: r.text, at }
+}
+
+// The line of the place.
+pub fn line<'a>(r: Reader<'a>) -> usize
+    ensures { λ n. ⌜ n ≡ line-of (now (r .entry .text)) (r .entry .at) ⌝ }
+{
+    position::line(r.text, r.at)
+}
+
+// The column of the place in its line.
+pub fn column<'a>(r: Reader<'a>) -> usize
+    ensures { λ n. ⌜ n ≡ column-of (now (r .entry .text)) (r .entry .at) ⌝ }
+{
+    position::column(r.text, r.at)
+}
+
+// The line of a place of a text.
+pub fn line_of(text: &[u8], at: usize) -> usize
+    ensures { λ n. ⌜ n ≡ line-of (now (text .entry)) at ⌝ }
+{
+    line(moved(new(text), at))
+}
+
+// The column of a place of a text.
+pub fn column_of(text: &[u8], at: usize) -> usize
+    ensures { λ n. ⌜ n ≡ column-of (now (text .entry)) at ⌝ }
+{
+    column(moved(new(text), at))
+}

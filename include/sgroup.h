@@ -36,10 +36,10 @@ extern "C" {
 
 /* the kinds of values: the first word of an answer */
 enum sgroup_kind {
-    SGROUP_OK = 1,            /* an opening went through */
+    SGROUP_OK = 1,            /* an opening or a launch went through */
     SGROUP_TRUE = 2,          /* true */
     SGROUP_FALSE = 3,         /* false */
-    SGROUP_ERROR = 4,         /* error */
+    SGROUP_ERROR = 4,         /* error; first, of a refused launch: the place */
     SGROUP_UNDEFINED = 5,     /* undefined */
     SGROUP_PID = 6,           /* first: the pid */
     SGROUP_GROUP = 7,         /* first: the s_group's name; second: the set that was given */
@@ -65,8 +65,11 @@ enum sgroup_reason {
     SGROUP_NAMESPACE_FULL = 13,   /* the namespace holds 32 names and would grow */
     SGROUP_CALLER_OUTSIDE = 14,   /* new_s_group: the caller isn't in the set */
     SGROUP_GROUP_TAKEN = 15,      /* new_s_group: name in use */
-    SGROUP_GROUPS_FULL = 16,      /* new_s_group: 32 s_groups exist */
-    SGROUP_LIST_SHORT = 17        /* the list run is shorter than the list */
+    SGROUP_GROUPS_FULL = 16,      /* new_s_group: 32 s_groups exist; launching: more than 32 are to be made */
+    SGROUP_LIST_SHORT = 17,       /* the list run is shorter than the list */
+    SGROUP_NO_LAUNCH_FILE = 18,   /* launching: the book is no book, or the file is no launch file */
+    SGROUP_GROUPS_DIFFER = 19,    /* launching: groups of one name with other nodes, one of them with the starting node */
+    SGROUP_ATOM_UNKNOWN = 20      /* launching: an atom of a group that is made is not in its part of the book */
 };
 
 /* Whether the run is a sound table. Writes nothing. */
@@ -75,6 +78,14 @@ bool sgroup_is_sound(const uint64_t *table, size_t table_len);
 /* Opens the table for n nodes, 1 to 64, some of them hidden: nobody is grouped or connected, and every normal node is a free group by itself.
  * OK; the table may hold anything before. Reasons 1, 2 and 7: ERROR, nothing is written to the table. */
 uint32_t sgroup_open(uint64_t *table, size_t table_len, uint32_t n, uint64_t hidden, uint64_t *answer, size_t answer_len);
+
+/* Opens the table for n nodes, some of them hidden, and makes the s_groups of a launch file, each by its lowest member, in the order of the file. The book
+ * has an atom a line, those of the nodes first, then those of the s_groups, which are numbered from 1; `start` is the node that is started. Book and file are
+ * texts of any length, with pointers that are not null. OK; the table may hold anything before. Reasons 1, 2, 7, 18, 19, 20 and 16, tested in this order:
+ * ERROR, nothing is written to the table. Where the file is refused (18), the first number is the place: how many leading bytes of it some launch file
+ * shares; it is 0 where the book is refused and under every other reason. docs/LAUNCH.md has the form of book and file. */
+uint32_t sgroup_launch(uint64_t *table, size_t table_len, uint32_t n, uint64_t hidden, uint32_t start, const uint8_t *book, size_t book_len,
+                       const uint8_t *file, size_t file_len, uint64_t *answer, size_t answer_len);
 
 /* Registers the pid p under the name n in the s_group s. TRUE. Reasons 8 to 11 and 13: FALSE. */
 uint32_t sgroup_register_name(uint64_t *table, size_t table_len, uint32_t caller, uint32_t s, uint32_t n, uint32_t p, uint64_t *answer,

@@ -1,0 +1,5 @@
+-- Skipping the values of pairs. `Skipping` has what is promised, the others laws. Assumes nothing.
+pub mod Skipping
+pub mod Plain
+pub mod Brackets
+pub mod Skips

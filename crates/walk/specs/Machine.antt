@@ -9,7 +9,7 @@ use lib.Dec.{eqb, ltb}
 use lib.ListN.{length, getD}
 use Rattle.tokens.specs.Bytes.{quote}
 use Rattle.tokens.specs.Reserved.{bytes}
-use Rattle.grammar.specs.File.{Group, Here, kernel, comma, open-list, close-list, open-tuple, close-tuple, ascii, name, node, Phase, sign, letters, atom, first-group, next-group, next-pair, kind, next-node, Move, goes, dead, reads, with-group, ended-groups, behind-kind, named, node-next, step, Outcome, refused}
+use Rattle.grammar.specs.File.{Group, Here, kernel, comma, open-list, close-list, open-tuple, close-tuple, ascii, Use, name, node, Phase, sign, letters, atom, first-group, next-group, next-pair, kind, next-node, Move, goes, dead, spaced, reads, with-group, ended-groups, behind-kind, named, node-next, step, Outcome, refused}
 use Rattle.grammar.specs.Steps.{from, from-step, from-dead, from-end}
 use Rattle.walk.specs.Walk.{part, dark, sign-from, sign-at, then-sign, atom-at, letters-at, normal-from, normal-at, then-normal, named-to, headed, head-at, last-to, node-from, noded, node-at, opened-to, bracket-at, entry-from, entry-at}
 use Rattle.walk.specs.Groups.{nodes-by, nodes, pass-by, pass-nodes, group-by, head-by, entry-by, groups-from, groups, pass-head, pass-group, pass-entry, pass-groups-from, pass-groups}
@@ -165,6 +165,62 @@ pub nodes-read : (t : List ℕ) (at : ℕ) (h : Here) (w : List ℕ) (ns : List 
     → from h [] (atom (node w ns)) t at ≡ passed (with-group h w (ns ++ nodes t at)) next-group t (pass-nodes t at)
 nodes-read t at h w ns = nodes-read-in (length t) t at h w ns (omega arith)
 
+-- ---- a list of tuples that begin with an atom: the groups, or pairs
+
+-- the rest of a text behind what stands in the list, or its refusal
+abbrev pub listed : Here → Use → (ℕ → Outcome) → List ℕ → Entry → Outcome
+listed h u close t (Entry.Group n) = from h [] (atom u) t n
+listed h u close t (Entry.Closed n) = close n
+listed h u close t (Entry.Stop p) = refused p
+
+-- the bracket that closes the list makes the move c
+module _ (t : List ℕ) (h : Here) (u : Use) (c : Move) (close : ℕ → Outcome) (closes : (i : ℕ) → moved t i c ≡ close (i + 1)) where
+  opened : (r : Step) → passed h (atom u) t r ≡ listed h u close t (opened-to r)
+  opened (Past n) = refl
+  opened (Stop p) = refl
+
+  abbrev first-move : ℕ → Move
+  first-move b = cond (eqb b (ascii open-tuple)) (goes h [] (atom u)) (cond (eqb b (ascii close-list)) c dead)
+
+  abbrev next-move : ℕ → Move
+  next-move b = cond (eqb b (ascii comma)) (goes h [] (sign open-tuple (atom u))) (cond (eqb b (ascii close-list)) c dead)
+
+  module _ (i : ℕ) (q : dark t i ≡ i) where
+    first-moves : cond (ltb i (length t)) (moved t i (first-move (getD t i 0))) (refused i) ≡ listed h u close t (entry-from t i false)
+    unfolding entry-from bracket-at sign-from
+    first-moves = rw (at-once t i (ascii open-tuple) q) (go (ltb i (length t)) refl (eqb (getD t i 0) (ascii open-tuple)) refl (eqb (getD t i 0) (ascii close-list)) refl)
+      where
+        go : (x : Bool) → ltb i (length t) ≡ x → (y : Bool) → eqb (getD t i 0) (ascii open-tuple) ≡ y → (z : Bool) → eqb (getD t i 0) (ascii close-list) ≡ z
+            → cond x (moved t i (cond y (goes h [] (atom u)) (cond z c dead))) (refused i)
+            ≡ listed h u close t (cond x (cond z (Entry.Closed (i + 1)) (opened-to (sign-from t i (ascii open-tuple)))) (Entry.Stop i))
+        go true l true m true n = absurd (omega (arith, not-both (getD t i 0) (ascii open-tuple) (ascii close-list) m n))
+        go true l true m false n = rw (l, m)
+        go true l false m true n = closes i
+        go true l false m false n = rw (l, m)
+        go false l y m z n = refl
+
+    next-moves : cond (ltb i (length t)) (moved t i (next-move (getD t i 0))) (refused i) ≡ listed h u close t (entry-from t i true)
+    unfolding entry-from bracket-at sign-from
+    next-moves = rw (at-once t i (ascii comma) q) (go (ltb i (length t)) refl (eqb (getD t i 0) (ascii comma)) refl (eqb (getD t i 0) (ascii close-list)) refl)
+      where
+        go : (x : Bool) → ltb i (length t) ≡ x → (y : Bool) → eqb (getD t i 0) (ascii comma) ≡ y → (z : Bool) → eqb (getD t i 0) (ascii close-list) ≡ z
+            → cond x (moved t i (cond y (goes h [] (sign open-tuple (atom u))) (cond z c dead))) (refused i)
+            ≡ listed h u close t (cond x (cond z (Entry.Closed (i + 1)) (opened-to (then-sign t (sign-from t i (ascii comma)) (ascii open-tuple)))) (Entry.Stop i))
+        go true l true m true n = absurd (omega (arith, not-both (getD t i 0) (ascii comma) (ascii close-list) m n))
+        go true l true m false n = rw (l, m) (sign-read t (i + 1) open-tuple h (atom u) ∙ opened (sign-at t (i + 1) (ascii open-tuple)))
+        go true l false m true n = closes i
+        go true l false m false n = rw (l, m)
+        go false l y m z n = refl
+
+  -- behind its bracket, and behind one of its tuples
+  pub first-read : (ph : Phase) → ((b : ℕ) → step h [] ph b ≡ spaced h [] ph b (first-move b)) → (at : ℕ) → from h [] ph t at ≡ listed h u close t (entry-at t at false)
+  unfolding entry-at
+  first-read ph s at = behind-white h ph first-move s t at ∙ first-moves (dark t at) (dark-again t at)
+
+  pub next-read : (ph : Phase) → ((b : ℕ) → step h [] ph b ≡ spaced h [] ph b (next-move b)) → (at : ℕ) → from h [] ph t at ≡ listed h u close t (entry-at t at true)
+  unfolding entry-at
+  next-read ph s at = behind-white h ph next-move s t at ∙ next-moves (dark t at) (dark-again t at)
+
 -- ---- the list of groups
 
 -- behind the list, these groups are read
@@ -173,52 +229,12 @@ closed gs = record { level = kernel; found = true; groups = gs }
 
 -- the rest of a text behind an entry of the list, or its refusal
 abbrev pub entry-led : Here → List ℕ → Entry → Outcome
-entry-led h t (Entry.Group n) = from h [] (atom name) t n
-entry-led h t (Entry.Closed n) = from (closed (h .groups)) [] (sign close-tuple next-pair) t n
-entry-led h t (Entry.Stop p) = refused p
-
-module _ (t : List ℕ) (h : Here) where
-  group-led : (r : Step) → passed h (atom name) t r ≡ entry-led h t (opened-to r)
-  group-led (Past n) = refl
-  group-led (Stop p) = refl
-
-  module _ (i : ℕ) (q : dark t i ≡ i) where
-    first-moves : cond (ltb i (length t)) (moved t i (cond (eqb (getD t i 0) (ascii open-tuple)) (goes h [] (atom name)) (cond (eqb (getD t i 0) (ascii close-list)) (ended-groups h) dead))) (refused i)
-        ≡ entry-led h t (entry-from t i false)
-    unfolding entry-from bracket-at sign-from
-    first-moves = rw (at-once t i (ascii open-tuple) q) (go (ltb i (length t)) refl (eqb (getD t i 0) (ascii open-tuple)) refl (eqb (getD t i 0) (ascii close-list)) refl)
-      where
-        go : (x : Bool) → ltb i (length t) ≡ x → (y : Bool) → eqb (getD t i 0) (ascii open-tuple) ≡ y → (z : Bool) → eqb (getD t i 0) (ascii close-list) ≡ z
-            → cond x (moved t i (cond y (goes h [] (atom name)) (cond z (ended-groups h) dead))) (refused i)
-            ≡ entry-led h t (cond x (cond z (Entry.Closed (i + 1)) (opened-to (sign-from t i (ascii open-tuple)))) (Entry.Stop i))
-        go true l true m true n = absurd (omega (arith, not-both (getD t i 0) (ascii open-tuple) (ascii close-list) m n))
-        go true l true m false n = rw (l, m)
-        go true l false m true n = refl
-        go true l false m false n = rw (l, m)
-        go false l y m z n = refl
-
-    next-moves : cond (ltb i (length t)) (moved t i (cond (eqb (getD t i 0) (ascii comma)) (goes h [] (sign open-tuple (atom name))) (cond (eqb (getD t i 0) (ascii close-list)) (ended-groups h) dead))) (refused i)
-        ≡ entry-led h t (entry-from t i true)
-    unfolding entry-from bracket-at sign-from
-    next-moves = rw (at-once t i (ascii comma) q) (go (ltb i (length t)) refl (eqb (getD t i 0) (ascii comma)) refl (eqb (getD t i 0) (ascii close-list)) refl)
-      where
-        go : (x : Bool) → ltb i (length t) ≡ x → (y : Bool) → eqb (getD t i 0) (ascii comma) ≡ y → (z : Bool) → eqb (getD t i 0) (ascii close-list) ≡ z
-            → cond x (moved t i (cond y (goes h [] (sign open-tuple (atom name))) (cond z (ended-groups h) dead))) (refused i)
-            ≡ entry-led h t (cond x (cond z (Entry.Closed (i + 1)) (opened-to (then-sign t (sign-from t i (ascii comma)) (ascii open-tuple)))) (Entry.Stop i))
-        go true l true m true n = absurd (omega (arith, not-both (getD t i 0) (ascii comma) (ascii close-list) m n))
-        go true l true m false n = rw (l, m) (sign-read t (i + 1) open-tuple h (atom name) ∙ group-led (sign-at t (i + 1) (ascii open-tuple)))
-        go true l false m true n = refl
-        go true l false m false n = rw (l, m)
-        go false l y m z n = refl
+entry-led h t x = listed h name (from (closed (h .groups)) [] (sign close-tuple next-pair) t) t x
 
 pub entry-read : (t : List ℕ) (at : ℕ) (h : Here) (begun : Bool) → from h [] (cond begun next-group first-group) t at ≡ entry-led h t (entry-at t at begun)
-unfolding step reads entry-at
-entry-read t at h true =
-    behind-white h next-group (λ b. cond (eqb b (ascii comma)) (goes h [] (sign open-tuple (atom name))) (cond (eqb b (ascii close-list)) (ended-groups h) dead)) (λ b. refl) t at
-    ∙ next-moves t h (dark t at) (dark-again t at)
-entry-read t at h false =
-    behind-white h first-group (λ b. cond (eqb b (ascii open-tuple)) (goes h [] (atom name)) (cond (eqb b (ascii close-list)) (ended-groups h) dead)) (λ b. refl) t at
-    ∙ first-moves t h (dark t at) (dark-again t at)
+unfolding step reads
+entry-read t at h true = next-read t h name (ended-groups h) (from (closed (h .groups)) [] (sign close-tuple next-pair) t) (λ i. refl) next-group (λ b. refl) at
+entry-read t at h false = first-read t h name (ended-groups h) (from (closed (h .groups)) [] (sign close-tuple next-pair) t) (λ i. refl) first-group (λ b. refl) at
 
 -- the groups from a place on, behind those that are read
 abbrev Groups-read : Here → List ℕ → ℕ → Bool → Type 0

@@ -16,7 +16,7 @@ use Rattle.tokens.specs.declared.Token.{Token}
 use Rattle.tokens.specs.declared.Token.the-variants as Token
 use Rattle.grammar.specs.File.{Group, ascii, comma, open-list, close-list, open-tuple, close-tuple}
 use Rattle.walk.specs.Walk.{part, dark, sign-from, sign-at, then-sign, atom-of, atom-at, letters-at, normal-from, normal-at, then-normal, named-to, headed, head-at, last-to, node-from, noded, node-at, opened-to, bracket-at, entry-from, entry-at}
-use Rattle.walk.specs.Groups.{nodes-by, nodes-in, nodes, pass-by, pass-nodes-in, pass-nodes, group-by, head-by, entry-by, groups-in, groups-from, pass-head, pass-group, pass-entry, pass-groups-in, pass-groups-from}
+use Rattle.walk.specs.Groups.{nodes-by, nodes-in, nodes, pass-by, pass-nodes-in, pass-nodes, group-by, head-by, entry-by, groups-in, groups-from, pass-head, pass-group, pass-entry, pass-groups-in, pass-groups-from, pass-groups}
 use Rattle.walk.specs.declared.Step.{Step}
 use Rattle.walk.specs.declared.Step.the-variants.{Past, Stop}
 use Rattle.walk.specs.declared.Atom.{Atom}
@@ -339,3 +339,26 @@ unfolding pass-groups-from pass-groups-in
 pass-groups-unfold t at begun =
     unfolded (length t) (λ k i b. pass-entry t k (entry-at t i b)) (λ f i b. pass-groups-in f t i b) (λ f i b. refl)
     (λ k l i b h. pass-entry-alike t k l i h (entry-at t i b) (entry-at-on t i b)) at begun
+
+module _ (t : List ℕ) (at : ℕ) (later : ℕ → Step) (on : (n : ℕ) → step-on t n (later n)) where
+  pass-head-on : (m : ℕ) → at < m → (r : Step) → step-on t m r → step-on t at (pass-head t later r)
+  pass-head-on m i (Past n) a = step-sooner t at n (omega arith) (later n) (on n)
+  pass-head-on m i (Stop p) a = tt
+
+  pass-group-on : (n : ℕ) → at < n → (x : Atom) → atom-on t n x → step-on t at (pass-group t later x)
+  pass-group-on n i (Atom.Is s e m) a = pass-head-on m (omega arith) (pass-nodes t m) (pass-nodes-on t m)
+  pass-group-on n i (Atom.Stop p) a = tt
+
+  pass-entry-on : (x : Entry) → entry-on t at x → step-on t at (pass-entry t later x)
+  pass-entry-on (Entry.Group n) a = pass-group-on n (a .0) (head-at t n) (head-on t n)
+  pass-entry-on (Entry.Closed n) a = a
+  pass-entry-on (Entry.Stop p) a = tt
+
+groups-in-on : (t : List ℕ) (f at : ℕ) (begun : Bool) → step-on t at (pass-groups-in f t at begun)
+unfolding pass-groups-in
+groups-in-on t zero at begun = tt
+groups-in-on t (suc f) at begun = pass-entry-on t at (λ n. pass-groups-in f t n true) (λ n. groups-in-on t f n true) (entry-at t at begun) (entry-at-on t at begun)
+
+pub pass-groups-on : (t : List ℕ) (at : ℕ) → step-on t at (pass-groups t at)
+unfolding pass-groups-from
+pass-groups-on t at = groups-in-on t (suc (length t)) at false

@@ -15,7 +15,7 @@ ghost use Rattle.duplicates.specs.Duplicates.{covered, equal-nodes, agre
 ghost use Rattle.duplicates.specs.Names.{apart};
 ghost use Rattle.duplicates.specs.Next.{next-group};
 ghost use Rattle.duplicates.specs.Fates.{fate-of};
-ghost use Rattle.duplicates.specs.Hashes.{hash, stored};
+ghost use Rattle.duplicates.specs.Stored.{stored};
 
 // The next group of the list: where its name begins and ends, the place of its first node, and the place behind it; or no group is left.
 pub enum Found {
@@ -55,12 +55,12 @@ fn holds(text: &[u8], at: usize, atom: &[u8]) -> bool
     loop {
         match node_at(text, j) {
             Node::More(s, e, n) => {
-                if check::same(atom, &text[s..e]) {
+                if atoms::same(atom, &text[s..e]) {
                     return true;
                 }
                 j = n;
             }
-            Node::Last(s, e, _) => return check::same(atom, &text[s..e]),
+            Node::Last(s, e, _) => return atoms::same(atom, &text[s..e]),
             Node::Stop(_) => return false,
         }
     }
@@ -103,7 +103,7 @@ fn agrees(text: &[u8], s: usize, e: usize, m: usize, name: &[u8], at: usize) -> 
     if m == at {
         return true;
     }
-    if !check::same(&text[s..e], name) {
+    if !atoms::same(&text[s..e], name) {
         return true;
     }
     equal_nodes(text, m, at)
@@ -139,7 +139,7 @@ fn named_among(text: &[u8], g: usize, count: usize, name: &[u8]) -> bool
     while i < count {
         match next_group(text, j, begun) {
             Found::Group(s, e, _, n) => {
-                if check::same(&text[s..e], name) {
+                if atoms::same(&text[s..e], name) {
                     return true;
                 }
                 i += 1;
@@ -168,36 +168,16 @@ pub fn fate_of(text: &[u8], g: usize, count: usize, name: &[u8], at: usize, node
     Fate::Made
 }
 
-// A byte as a wide number.
-fn wide(b: u8) -> u64
-    ensures { λ r. ⌜ r ≡ b ⌝ }
-{
-    b as u64
-}
-
-// A number of 32 bits that stands for a name: equal names have equal ones.
-fn hash(name: &[u8]) -> u64
-    ensures { λ r. ⌜ r ≡ hash (now (name .entry)) ⌝ }
-{
-    let mut h: u64 = 0;
-    let mut i = 0;
-    while i < name.len() {
-        h = (h * 16777619 + wide(name[i])) % 4294967296;
-        i += 1;
-    }
-    h
-}
-
 // How many groups the quick test takes.
-const HASH_LIMIT: usize = 32;
+const MARKS: usize = 32;
 
-// Whether h is one of these.
-fn stored(hashes: &[u64], h: u64) -> bool
-    ensures { λ r. ⌜ r ≡ stored h (now (hashes .entry)) ⌝ }
+// Whether a mark is one of these.
+fn stored(marks: &[u64], mark: u64) -> bool
+    ensures { λ r. ⌜ r ≡ stored mark (now (marks .entry)) ⌝ }
 {
     let mut i = 0;
-    while i < hashes.len() {
-        if hashes[i] == h {
+    while i < marks.len() {
+        if marks[i] == mark {
             return true;
         }
         i += 1;
@@ -209,21 +189,21 @@ fn stored(hashes: &[u64], h: u64) -> bool
 pub fn apart(text: &[u8], g: usize) -> bool
     ensures { λ r. ⌜ (r ≡ true → apart (groups (now (text .entry)) g) ≡ true) ⌝ }
 {
-    let mut hashes = [0u64; HASH_LIMIT];
+    let mut marks = [0u64; MARKS];
     let mut count = 0;
     let mut j = g;
     let mut begun = false;
     loop {
         match next_group(text, j, begun) {
             Found::Group(s, e, _, n) => {
-                if count == HASH_LIMIT {
+                if count == MARKS {
                     return false;
                 }
-                let h = hash(&text[s..e]);
-                if stored(&hashes[..count], h) {
+                let mark = atoms::mark_of(&text[s..e]);
+                if stored(&marks[..count], mark) {
                     return false;
                 }
-                hashes[count] = h;
+                marks[count] = mark;
                 count += 1;
                 j = n;
                 begun = true;

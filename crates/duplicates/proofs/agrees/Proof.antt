@@ -4,8 +4,8 @@ use mathlib.Core.Path.{_≡_, sym, _∙_}
 use mathlib.Core.Bool.{Bool, true, false, not, _||_, or-true}
 use mathlib.Core.List.{List}
 use Prim.Native.Nat.{ℕ}
+use borrow.Author.Tests.{not-true, not-false}
 use Rattle.tokens.specs.Reserved.{same}
-use Rattle.tokens.specs.Words.{same-by}
 use Rattle.walk.specs.Walk.{part}
 use Rattle.walk.specs.Groups.{nodes}
 use Rattle.duplicates.specs.Duplicates.{equal-nodes}
@@ -17,12 +17,12 @@ use Rattle.duplicates.proofs.agrees.Tie as tie
 own : (b : Bool) (t : List ℕ) (m at : ℕ) → m ≡ at → true ≡ (b || equal-nodes (nodes t m) (nodes t at))
 own b t m at e = rw (e, equal-self (nodes t at)) (sym (or-true b))
 
-module _ (v w : List ℕ) (r : Bool) (so : r ≡ true → v ≡ w) (if : v ≡ w → r ≡ true) (b : Bool) where
-  other : not r ≡ true → true ≡ (not (same v w) || b)
-  other h = rw (same-by v w r so if, h)
+-- of another name, or by its nodes
+other : (s b : Bool) → s ≡ false → true ≡ (not s || b)
+other s b h = rw h
 
-  alike : not r ≡ false → b ≡ (not (same v w) || b)
-  alike h = rw (same-by v w r so if, h)
+alike : (s b : Bool) → s ≡ true → b ≡ (not s || b)
+alike s b h = rw h
 
 returns : tie.Need-returns
 returns c = let s = c .before .before .before .args in own (not (same (part (s .text .now) (s .s) (s .e)) (s .name .now))) (s .text .now) (s .m) (s .at) (c .if1 .taken)
@@ -40,13 +40,13 @@ same-requires : tie.Need-same-requires
 same-requires c κs = search needs
 
 returns-2 : tie.Need-returns-2
-returns-2 c = other _ _ _ (c .before .same .ensures .0) (c .before .same .ensures .1) _ (c .if2 .taken)
+returns-2 c = other _ _ (sym (c .before .same .ensures) ∙ not-true _ (c .if2 .taken))
 
 equal-nodes-requires : tie.Need-equal-nodes-requires
 equal-nodes-requires c κs = search needs
 
 returns-3 : tie.Need-returns-3
-returns-3 c = c .equal-nodes .ensures ∙ alike _ _ _ (c .before .before .same .ensures .0) (c .before .before .same .ensures .1) _ (c .before .if2 .left)
+returns-3 c = c .equal-nodes .ensures ∙ alike _ _ (sym (c .before .before .same .ensures) ∙ not-false _ (c .before .if2 .left))
 
 pub agrees-spec : {M : Type 1} → statement M
 agrees-spec =

@@ -1,13 +1,12 @@
 -- `duplicates::holds` meets its contract: the atom is among the nodes where it is among those from j on. Assumes nothing.
 use borrow.Author.Needs.{needs}
 use mathlib.Core.Path.{_≡_, sym, _∙_}
-use mathlib.Core.Bool.{Bool, true, false, or-false}
+use mathlib.Core.Bool.{true, false, or-false}
 use mathlib.Core.List.{List, [], _∷_}
 use Prim.Native.Nat.{ℕ, _-_}
 use native.Mathlib.Omega.{arith}
 use lib.ListN.{length}
 use Rattle.tokens.specs.Reserved.{among, same}
-use Rattle.tokens.specs.Words.{same-by}
 use Rattle.walk.specs.Groups.{nodes}
 use Rattle.duplicates.specs.Next.{node-found}
 use Rattle.duplicates.proofs.holds.Statement.{statement}
@@ -19,21 +18,21 @@ Inv-loop text at atom j₀ j = among (nodes text at) atom ≡ among (nodes text 
 abbrev μ-loop : tie.MeasureT-loop
 μ-loop text at atom j₀ j = length text - j
 
-module _ (l : List (List ℕ)) (a w : List ℕ) (ws : List (List ℕ)) (is : l ≡ w ∷ ws) (r : Bool) (so : r ≡ true → a ≡ w) (if : a ≡ w → r ≡ true) where
+module _ (l : List (List ℕ)) (a w : List ℕ) (ws : List (List ℕ)) (is : l ≡ w ∷ ws) where
   -- the first is the atom
-  found : r ≡ true → among l a ≡ true
+  found : same a w ≡ true → among l a ≡ true
   unfolding among
-  found h = rw (is, same-by a w r so if, h)
+  found h = rw (is, h)
 
   -- it is another
-  passed : r ≡ false → among l a ≡ among ws a
+  passed : same a w ≡ false → among l a ≡ among ws a
   unfolding among
-  passed h = rw (is, same-by a w r so if, h)
+  passed h = rw (is, h)
 
 -- it is the last
-last : (l : List (List ℕ)) (a w : List ℕ) → l ≡ w ∷ [] → (r : Bool) → (r ≡ true → a ≡ w) → (a ≡ w → r ≡ true) → among l a ≡ r
+last : (l : List (List ℕ)) (a w : List ℕ) → l ≡ w ∷ [] → among l a ≡ same a w
 unfolding among
-last l a w is r so if = rw (is, same-by a w r so if) (or-false r)
+last l a w is = rw is (or-false (same a w))
 
 -- none is left
 ended : (l : List (List ℕ)) (a : List ℕ) → l ≡ [] → among l a ≡ false
@@ -65,7 +64,7 @@ returns : tie.Need-returns Inv-loop μ-loop
 returns c =
     let k = c .before .before .before .before in
     let n = node-found _ _ _ (sym (k .s .given .1) ∙ k .before .before .node-at .ensures) in
-    sym (k .before .before .before .loop .inv ∙ found _ _ _ _ (n .0) _ (c .before .same .ensures .0) (c .before .same .ensures .1) (c .if1 .taken))
+    sym (k .before .before .before .loop .inv ∙ found _ _ _ _ (n .0) (sym (c .before .same .ensures) ∙ c .if1 .taken))
 
 loop-less : tie.Need-loop-less Inv-loop μ-loop
 loop-less c =
@@ -77,7 +76,7 @@ loop-again : tie.Need-loop-again Inv-loop μ-loop
 loop-again c =
     let k = c .before .before .before .before in
     let n = node-found _ _ _ (sym (k .s .given .1) ∙ k .before .before .node-at .ensures) in
-    k .before .before .before .loop .inv ∙ passed _ _ _ _ (n .0) _ (c .before .same .ensures .0) (c .before .same .ensures .1) (c .if1 .left)
+    k .before .before .before .loop .inv ∙ passed _ _ _ _ (n .0) (sym (c .before .same .ensures) ∙ c .if1 .left)
 
 enum-known-s-2 : tie.Need-enum-known-s-2 Inv-loop μ-loop
 enum-known-s-2 c = search needs
@@ -98,7 +97,7 @@ returns-2 : tie.Need-returns-2 Inv-loop μ-loop
 returns-2 c =
     let k = c .before .before .before in
     let n = node-found _ _ _ (sym (k .s2 .given .1) ∙ k .before .before .node-at .ensures) in
-    sym (k .before .before .before .loop .inv ∙ last _ _ _ (n .0) _ (c .same2 .ensures .0) (c .same2 .ensures .1))
+    c .same2 .ensures ∙ sym (k .before .before .before .loop .inv ∙ last _ _ _ (n .0))
 
 enum-told : tie.Need-enum-told Inv-loop μ-loop
 enum-told c = search needs

@@ -1,14 +1,13 @@
 -- `duplicates::named_among` meets its contract: one of the first groups has the name where one of those from j on has, as many as are left. Assumes nothing.
 use borrow.Author.Needs.{needs}
 use mathlib.Core.Path.{_≡_, sym, _∙_}
-use mathlib.Core.Bool.{Bool, true, false, _||_}
+use mathlib.Core.Bool.{true, false, _||_}
 use mathlib.Core.List.{List, [], _∷_}
 use Prim.Native.Nat.{ℕ, zero, suc, _+_, _-_, _<_}
 use native.Mathlib.Omega.{arith}
 use lib.ListN.{length, take}
 use lib.Seq.{take-nil}
 use Rattle.tokens.specs.Reserved.{same}
-use Rattle.tokens.specs.Words.{same-by}
 use Rattle.grammar.specs.File.{Group}
 use Rattle.walk.specs.Groups.{groups, groups-from}
 use Rattle.duplicates.specs.Duplicates.{named}
@@ -27,17 +26,16 @@ first : (k : ℕ) (gs : List Group) (g : Group) (ks : List Group) (w : List ℕ)
 first zero gs g ks w is l = absurd (omega arith)
 first (suc k) gs g ks w is l = let e : suc k - 1 ≡ k = omega arith in rw (is, e)
 
-module _ (count i : ℕ) (left : i < count) (gs : List Group) (g : Group) (ks : List Group) (w : List ℕ) (is : gs ≡ g ∷ ks)
-    (r : Bool) (so : r ≡ true → g .name ≡ w) (if : g .name ≡ w → r ≡ true) where
+module _ (count i : ℕ) (left : i < count) (gs : List Group) (g : Group) (ks : List Group) (w : List ℕ) (is : gs ≡ g ∷ ks) where
   -- it has the name
-  found : r ≡ true → named (take (count - i) gs) w ≡ true
-  found h = first (count - i) gs g ks w is (omega arith) ∙ rw (same-by (g .name) w r so if, h)
+  found : same (g .name) w ≡ true → named (take (count - i) gs) w ≡ true
+  found h = first (count - i) gs g ks w is (omega arith) ∙ rw h
 
   -- it has another
-  passed : r ≡ false → named (take (count - i) gs) w ≡ named (take (count - (i + 1)) ks) w
+  passed : same (g .name) w ≡ false → named (take (count - i) gs) w ≡ named (take (count - (i + 1)) ks) w
   passed h =
       let k : count - i - 1 ≡ count - (i + 1) = omega arith in
-      first (count - i) gs g ks w is (omega arith) ∙ rw (same-by (g .name) w r so if, h, k)
+      first (count - i) gs g ks w is (omega arith) ∙ rw (h, k)
 
 -- none is looked at yet
 start : (count : ℕ) (gs : List Group) (w : List ℕ) → named (take count gs) w ≡ named (take (count - 0) gs) w
@@ -77,7 +75,7 @@ returns c =
     let k = c .before .before .before .before in
     let n = group-found _ _ _ _ (sym (k .s .given .1) ∙ k .before .before .next-group .ensures) in
     let l = k .before .before .before .before .loop in
-    sym (l .inv ∙ found _ (l .i) (k .before .before .before .loop-test .taken) _ _ _ _ (n .0) _ (c .before .same .ensures .0) (c .before .same .ensures .1) (c .if1 .taken))
+    sym (l .inv ∙ found _ (l .i) (k .before .before .before .loop-test .taken) _ _ _ _ (n .0) (sym (c .before .same .ensures) ∙ c .if1 .taken))
 
 add-i : tie.Need-add-i Inv-loop μ-loop
 add-i c = search needs
@@ -93,7 +91,7 @@ loop-again c =
     let k = c .before .before .before .before in
     let n = group-found _ _ _ _ (sym (k .s .given .1) ∙ k .before .before .next-group .ensures) in
     let l = k .before .before .before .before .loop in
-    l .inv ∙ passed _ (l .i) (k .before .before .before .loop-test .taken) _ _ _ _ (n .0) _ (c .before .same .ensures .0) (c .before .same .ensures .1) (c .if1 .left)
+    l .inv ∙ passed _ (l .i) (k .before .before .before .loop-test .taken) _ _ _ _ (n .0) (sym (c .before .same .ensures) ∙ c .if1 .left)
 
 enum-told : tie.Need-enum-told Inv-loop μ-loop
 enum-told c = search needs

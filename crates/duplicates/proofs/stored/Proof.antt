@@ -1,4 +1,4 @@
--- `duplicates::stored` meets its contract: h is one of all where it is one of the rest. Assumes nothing.
+-- `duplicates::stored` meets its contract: a mark is one of all where it is one of the rest. Assumes nothing.
 use borrow.Author.Needs.{needs}
 use mathlib.Core.Path.{_≡_, sym, _∙_}
 use mathlib.Core.Bool.{true, false}
@@ -8,30 +8,30 @@ use native.Mathlib.Numerals.{add-one}
 use borrow.Author.Tests.{eq-eqb, ne-eqb}
 use lib.ListN.{length, drop, drop-of-length-le, getD}
 use lib.Seq.{drop-cons}
-use Rattle.duplicates.specs.Hashes.{stored}
+use Rattle.duplicates.specs.Stored.{stored}
 use Rattle.duplicates.proofs.stored.Statement.{statement}
 use Rattle.duplicates.proofs.stored.Tie as tie
 
 abbrev Inv-loop : tie.InvT-loop
-Inv-loop hashes h i₀ i = stored h hashes ≡ stored h (drop i hashes)
+Inv-loop marks mark i₀ i = stored mark marks ≡ stored mark (drop i marks)
 
 abbrev μ-loop : tie.MeasureT-loop
-μ-loop hashes h i₀ i = length hashes - i
+μ-loop marks mark i₀ i = length marks - i
 
 -- it is the one at i
-found : (xs : List ℕ) (i h : ℕ) → i < length xs → getD xs i 0 ≡ h → stored h (drop i xs) ≡ true
+found : (xs : List ℕ) (i m : ℕ) → i < length xs → getD xs i 0 ≡ m → stored m (drop i xs) ≡ true
 unfolding stored
-found xs i h l e = rw (drop-cons xs i 0, eq-eqb (getD xs i 0) h e)
+found xs i m l e = rw (drop-cons xs i 0, eq-eqb (getD xs i 0) m e)
 
 -- it is another
-missed : (xs : List ℕ) (i h : ℕ) → i < length xs → (getD xs i 0 ≡ h → ⊥) → stored h (drop i xs) ≡ stored h (drop (i + 1) xs)
+missed : (xs : List ℕ) (i m : ℕ) → i < length xs → (getD xs i 0 ≡ m → ⊥) → stored m (drop i xs) ≡ stored m (drop (i + 1) xs)
 unfolding stored
-missed xs i h l e = rw (drop-cons xs i 0, ne-eqb (getD xs i 0) h e, add-one)
+missed xs i m l e = rw (drop-cons xs i 0, ne-eqb (getD xs i 0) m e, add-one)
 
 -- none is left
-ended : (xs : List ℕ) (i h : ℕ) → length xs ≤ i → stored h (drop i xs) ≡ false
+ended : (xs : List ℕ) (i m : ℕ) → length xs ≤ i → stored m (drop i xs) ≡ false
 unfolding stored
-ended xs i h l = rw (drop-of-length-le xs l)
+ended xs i m l = rw (drop-of-length-le xs l)
 
 loop-holds : tie.Need-loop-holds Inv-loop μ-loop
 loop-holds c = search needs
@@ -46,7 +46,7 @@ returns : tie.Need-returns Inv-loop μ-loop
 returns c =
     let l = c .before .before .before .loop in
     let s = c .before .before .before .before .args in
-    sym (l .inv ∙ found (s .hashes .now) (l .i) (s .h) (c .before .before .loop-test .taken) (c .if1 .taken))
+    sym (l .inv ∙ found (s .marks .now) (l .i) (s .mark) (c .before .before .loop-test .taken) (c .if1 .taken))
 
 add-i : tie.Need-add-i Inv-loop μ-loop
 add-i c = search needs
@@ -58,12 +58,12 @@ loop-again : tie.Need-loop-again Inv-loop μ-loop
 loop-again c =
     let l = c .before .before .before .loop in
     let s = c .before .before .before .before .args in
-    l .inv ∙ missed (s .hashes .now) (l .i) (s .h) (c .before .before .loop-test .taken) (c .if1 .left)
+    l .inv ∙ missed (s .marks .now) (l .i) (s .mark) (c .before .before .loop-test .taken) (c .if1 .left)
 
 returns-2 : tie.Need-returns-2 Inv-loop μ-loop
 returns-2 c =
     let s = c .before .before .args in
-    sym (c .before .loop .inv ∙ ended (s .hashes .now) (c .before .loop .i) (s .h) (c .loop-test .left))
+    sym (c .before .loop .inv ∙ ended (s .marks .now) (c .before .loop .i) (s .mark) (c .loop-test .left))
 
 pub stored-spec : {M : Type 1} → statement M
 stored-spec =

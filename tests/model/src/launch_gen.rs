@@ -501,7 +501,7 @@ pub fn spoiled(text: &[u8], prng: &mut Prng) -> Vec<u8> {
 /// The text with one byte replaced, put in or taken out.
 pub fn changed(text: &[u8], prng: &mut Prng) -> Vec<u8> {
     let mut changed = text.to_vec();
-    let place = prng.below(text.len() as u64 + 1) as usize;
+    let place = some_place(text, prng);
     match prng.below(3) {
         0 if place < text.len() => changed[place] = other_byte(prng),
         1 if place < text.len() => {
@@ -546,18 +546,22 @@ fn piece_of(text: &[u8], prng: &mut Prng) -> Vec<u8> {
     text[start..(start + length).min(text.len())].to_vec()
 }
 
-/// The text with a piece put in just before or behind a bracket or a comma, or
-/// anywhere.
+/// The text with a piece put in somewhere.
 fn with_piece(text: &[u8], piece: &[u8], prng: &mut Prng) -> Vec<u8> {
+    let place = some_place(text, prng);
+    [&text[..place], piece, &text[place..]].concat()
+}
+
+/// A place just before or behind a byte that is no letter of a name, or any.
+fn some_place(text: &[u8], prng: &mut Prng) -> usize {
     let beside: Vec<usize> = (0..text.len())
-        .filter(|place| b"[]{},".contains(&text[*place]))
+        .filter(|place| b"[]{},.' ".contains(&text[*place]))
         .collect();
-    let place = if beside.is_empty() || prng.once_in(4) {
+    if beside.is_empty() || prng.once_in(3) {
         prng.below(text.len() as u64 + 1) as usize
     } else {
         prng.pick(&beside) + prng.below(2) as usize
-    };
-    [&text[..place], piece, &text[place..]].concat()
+    }
 }
 
 /// The lines of these atoms.

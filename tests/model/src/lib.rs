@@ -16,7 +16,7 @@
 //! - `launch_file`: the text of a launch file, its tree, and where a text stops
 //!   being one.
 //! - `launch`: a launch: the name book, the groups kept, the table.
-//! - `launch_gen`: random launches.
+//! - `launch_gen`, `launch_list`: random launches, and a list of them in files.
 //! - `prng`, `generate`, `malformed`, `mutate`: random scripts and tables.
 //! - `shrink`: makes a failing script shorter and keeps it as a file.
 
@@ -27,6 +27,7 @@ pub mod generate;
 pub mod launch;
 pub mod launch_file;
 pub mod launch_gen;
+pub mod launch_list;
 pub mod malformed;
 pub mod mutate;
 pub mod prng;

@@ -8,6 +8,7 @@ mod helpers;
 mod launch;
 mod launches;
 mod lines;
+mod listings;
 mod places;
 mod programs;
 mod runs;

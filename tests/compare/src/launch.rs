@@ -95,9 +95,13 @@ pub fn expected(case: &Case) -> Ran {
     }
 }
 
-/// How the library differs from the model on this case, or from what 02 says of every launch; none where it doesn't.
-pub fn difference(case: &Case) -> Option<String> {
-    let (ours, theirs) = (ran(case), expected(case));
+/// What the library returns on this case, and how it differs there from the model, or from what 02 says of every launch; none where it doesn't.
+pub fn judged(case: &Case) -> (u32, Option<String>) {
+    let ours = ran(case);
+    (ours.returned, different(case, &ours, &expected(case)))
+}
+
+fn different(case: &Case, ours: &Ran, theirs: &Ran) -> Option<String> {
     if ours.returned != theirs.returned {
         return Some(format!(
             "returned {}, the model {}",
@@ -149,40 +153,29 @@ fn with_runs(given: Launch, prng: &mut Prng) -> Case {
     }
 }
 
-/// Cases at the edges, each with a name: launches whose books are as large as they may be, and texts without a byte.
+/// Cases at the edges, each with a name: books as large as they may be and larger, and texts without a byte.
 pub fn fixed() -> Vec<(&'static str, Case)> {
-    let mut launches = launch_gen::fixed();
-    let (_, first) = launches[0].clone();
-    launches.push((
-        "no-book",
-        Launch {
-            book: Vec::new(),
-            ..first.clone()
-        },
-    ));
-    launches.push((
-        "no-file",
-        Launch {
-            file: Vec::new(),
-            ..first
-        },
-    ));
     let mut prng = Prng::new(1);
-    let runs = |given: Launch| Case {
-        given,
-        table: random_words(&mut prng),
-        answer: vec![9; ANSWER_WORDS],
-    };
-    let names: Vec<&str> = launches.iter().map(|(name, _)| *name).collect();
-    let cases = launches.into_iter().map(|(_, given)| given).map(runs);
-    names.into_iter().zip(cases).collect()
+    let small = launch_gen::fitting_launch(&mut prng);
+    let (mut no_book, mut no_file) = (small.clone(), small);
+    no_book.book.clear();
+    no_file.file.clear();
+    let mut launches = launch_gen::fixed();
+    launches.extend([("no-book", no_book), ("no-file", no_file)]);
+    let cases = launches.into_iter().map(|(name, given)| {
+        let case = Case {
+            given,
+            table: random_words(&mut prng),
+            answer: vec![9; ANSWER_WORDS],
+        };
+        (name, case)
+    });
+    cases.collect()
 }
 
-/// What a case brought out: the number returned, and of a refused text whether it was the book.
-pub fn outcome(case: &Case) -> (u32, bool) {
-    let returned = ran(case).returned;
-    let bad_book = || Book::read(&case.given.book, case.given.n as usize).is_none();
-    (returned, returned == 18 && bad_book())
+/// Whether the model finds the book of a case bad.
+pub fn bad_book(case: &Case) -> bool {
+    Book::read(&case.given.book, case.given.n as usize).is_none()
 }
 
 /// The launch through the library on a table of its length, in numbers.

@@ -2,7 +2,7 @@
 //! Prints what was covered; a launch that differs is made smaller and kept in tests/compare/kept/. The status is 0 where nothing differs and every reason
 //! that a launch can have was seen.
 
-use compare::launch::{difference, fixed, outcome, random, Case};
+use compare::launch::{bad_book, fixed, judged, random, Case};
 use compare::library::NO_ROOM;
 use compare::{kept, launch_kept};
 use std::collections::BTreeMap;
@@ -34,7 +34,7 @@ fn again(files: &[String]) -> ExitCode {
             .ok()
             .and_then(|text| launch_kept::read(&text));
         let verdict = match case {
-            Some(case) => difference(&case),
+            Some(case) => judged(&case).1,
             None => Some("no launch".to_string()),
         };
         failed |= verdict.is_some();
@@ -67,8 +67,10 @@ fn launched(seed: u64, launches: u64) -> ExitCode {
     let named = fixed.map(|(name, case)| (name.to_string(), case));
     let random = (seed..seed + launches).map(|seed| (seed.to_string(), random(seed)));
     for (name, case) in named.chain(random) {
-        *seen.entry(outcome(&case)).or_default() += 1;
-        if let Some(wrong) = difference(&case) {
+        let (returned, wrong) = judged(&case);
+        let of_book = returned == 18 && bad_book(&case);
+        *seen.entry((returned, of_book)).or_default() += 1;
+        if let Some(wrong) = wrong {
             report(&name, &case, &wrong);
             return ExitCode::FAILURE;
         }
@@ -89,7 +91,7 @@ fn launched(seed: u64, launches: u64) -> ExitCode {
 
 fn report(name: &str, case: &Case, wrong: &str) {
     println!("launch: {name}: {wrong}");
-    let small = launch_kept::smaller(case, &|case| difference(case).is_some());
+    let small = launch_kept::smaller(case, &|case| judged(case).1.is_some());
     let path = format!("{}/launch-{name}.launch", kept::FOLDER);
     let text = launch_kept::text(&small);
     match fs::create_dir_all(kept::FOLDER).and_then(|()| fs::write(&path, &text)) {
@@ -98,5 +100,5 @@ fn report(name: &str, case: &Case, wrong: &str) {
     }
     print!("{text}");
     println!("{}", String::from_utf8_lossy(&small.given.file));
-    println!("{}", difference(&small).unwrap_or_default());
+    println!("{}", judged(&small).1.unwrap_or_default());
 }

@@ -52,6 +52,9 @@ fn bytes_of(pairs: &str) -> Option<Vec<u8>> {
         .collect()
 }
 
+/// Lines of a book from which some are taken out; with more it would take too long.
+const LONGEST_BOOK: usize = 1_000;
+
 /// A smaller case that still fails: bytes of the file and lines of the book are taken out, words of the runs become zero.
 pub fn smaller(case: &Case, fails: &dyn Fn(&Case) -> bool) -> Case {
     let mut best = case.clone();
@@ -71,11 +74,13 @@ pub fn smaller(case: &Case, fails: &dyn Fn(&Case) -> bool) -> Case {
     });
     let lines = best.given.book.split_inclusive(|byte| *byte == b'\n');
     let lines: Vec<Vec<u8>> = lines.map(<[u8]>::to_vec).collect();
-    best.given.book = fewer(lines, &|book| {
-        let mut tried = best.clone();
-        tried.given.book = book;
-        fails(&tried)
-    });
+    if lines.len() <= LONGEST_BOOK {
+        best.given.book = fewer(lines, &|book| {
+            let mut tried = best.clone();
+            tried.given.book = book;
+            fails(&tried)
+        });
+    }
     best
 }
 

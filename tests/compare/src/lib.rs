@@ -5,10 +5,15 @@
 //! - `random`: random cases from a seed.
 //! - `kept`: a failing case as a file, and back.
 //! - `smaller`, `parts`: make a failing case smaller.
+//! - `launch`: one launch with its lent runs, and how the library's outcome differs from the model's; `launch_kept` makes it smaller and keeps it.
 //! - `scripts`: random and fixed scripts for the program.
 
 pub mod case;
 pub mod kept;
+#[cfg(feature = "launch")]
+pub mod launch;
+#[cfg(feature = "launch")]
+pub mod launch_kept;
 pub mod library;
 pub mod parts;
 pub mod random;

@@ -25,6 +25,9 @@ pub enum Reason {
     GroupNameInUse = 15,
     GroupsFull = 16,
     ShortRun = 17,
+    NotLaunchFile = 18,
+    Duplicates = 19,
+    AtomNotInBook = 20,
 }
 
 impl Reason {
@@ -36,7 +39,7 @@ impl Reason {
     /// Whether a call refused for this reason writes nothing at all. Under the
     /// other refusals a remote lookup still makes its first connection.
     pub fn writes_nothing(self) -> bool {
-        matches!(self.number(), 1..=7 | 17)
+        matches!(self.number(), 1..=7 | 17..=20)
     }
 }
 

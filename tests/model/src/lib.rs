@@ -1,9 +1,9 @@
 //! An independent model of the s_group table and its script program.
 //!
-//! The model is written from document 01 and our readings of it alone. It keeps
-//! the state as sets and maps and knows the table's layout only in `table` and
-//! `sound`, so that it can be held against the proved library without sharing
-//! its structure.
+//! The model is written from documents 01 and 02 and our readings of them alone.
+//! It keeps the state as sets and maps and knows the table's layout only in
+//! `table` and `sound`, so that it can be held against the proved library
+//! without sharing its structure.
 //!
 //! - `answer`: values and reasons, with their numbers and printed words.
 //! - `command`: the fifteen commands, their arguments and possible reasons.
@@ -13,6 +13,10 @@
 //! - `sound`: soundness, clause by clause, over the words.
 //! - `script`: a script's bytes in, the printed bytes out.
 //! - `compare`: one call on words, answered in plain numbers.
+//! - `launch_file`: the text of a launch file, its tree, and where a text stops
+//!   being one.
+//! - `launch`: a launch: the name book, the groups kept, the table.
+//! - `launch_gen`, `launch_list`: random launches, and a list of them in files.
 //! - `prng`, `generate`, `malformed`, `mutate`: random scripts and tables.
 //! - `shrink`: makes a failing script shorter and keeps it as a file.
 
@@ -20,6 +24,10 @@ pub mod answer;
 pub mod command;
 pub mod compare;
 pub mod generate;
+pub mod launch;
+pub mod launch_file;
+pub mod launch_gen;
+pub mod launch_list;
 pub mod malformed;
 pub mod mutate;
 pub mod prng;

@@ -167,6 +167,7 @@ impl Asked<'_> {
             Reason::GroupsFull => self.state.s_groups.len() >= MOST_GROUPS,
             Reason::ShortRun => self.list_length() > self.room,
             Reason::MainCase | Reason::RunLength | Reason::RosterSize | Reason::Unsound => false,
+            Reason::NotLaunchFile | Reason::Duplicates | Reason::AtomNotInBook => false,
         }
     }
 

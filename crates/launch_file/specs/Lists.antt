@@ -80,7 +80,7 @@ kernel-ahead : (t : List ℕ) (n m : ℕ) → then-sign t (pass-groups t n) (asc
 kernel-ahead t n m e = rw e at (then-sign-on t n (ascii close-tuple) (pass-groups t n) (pass-groups-on t n))
 
 module _ (t : List ℕ) (at j : ℕ) (begun found : Bool) (g : ℕ) (B : Between kernel t at j begun found g)
-  (n : ℕ) (P : Pair-read (list-of (own-key kernel) found) (cond begun next-pair first-pair) t j found (Pair.Own n)) where
+    (n : ℕ) (P : Pair-read (list-of (own-key kernel) found) (cond begun next-pair first-pair) t j found (Pair.Own n)) where
   pub groups-stop : (p : ℕ) → then-sign t (pass-groups t n) (ascii close-tuple) ≡ Step.Stop p → List-read kernel t at (Listing.Stop p)
   groups-stop p e = own-stops kernel t at j begun found g B n P p (kernel-own t n (Step.Stop p) e)
 
@@ -93,7 +93,7 @@ module _ (t : List ℕ) (at j : ℕ) (begun found : Bool) (g : ℕ) (B : Between
 -- ---- the pairs of the file: its own one has the kernel entry
 
 module _ (t : List ℕ) (at j : ℕ) (begun found : Bool) (g : ℕ) (B : Between file t at j begun found g)
-  (n : ℕ) (P : Pair-read (list-of (own-key file) found) (cond begun next-pair first-pair) t j found (Pair.Own n)) where
+    (n : ℕ) (P : Pair-read (list-of (own-key file) found) (cond begun next-pair first-pair) t j found (Pair.Own n)) where
   pub kernel-stops : (p : ℕ) → List-read kernel t n (Listing.Stop p) → List-read file t at (Listing.Stop p)
   kernel-stops p L = own-stops file t at j begun found g B n P p (L .goes-on)
 
@@ -149,6 +149,7 @@ stop-moves t i g = go (ltb i (length t)) (eqb (getD t i 0) 46)
     whole : (x : Bool) (p : ℕ) → cond x (refused p) (taken (groups t g)) ≡ read-as t (cond x (Reading.Refused p) (Reading.Whole g))
     whole true p = refl
     whole false p = refl
+
     go : (x y : Bool) → cond x (moved t i (cond y (stops (groups t g)) dead)) (refused i) ≡ read-as t (ending-to t g (cond x (cond y (Step.Past (i + 1)) (Step.Stop i)) (Step.Stop i)))
     go true true = ends-at t (groups t g) (i + 1) ∙ whole (ltb (dark t (i + 1)) (length t)) (dark t (i + 1))
     go true false = refl

@@ -44,9 +44,11 @@ own-goes-on t at e h = go (h .found)
   where
     inner : Here
     inner = record { level = kernel; found = false; groups = h .groups }
+
     to-own : (r : Step) → passed inner (entry-of (h .level)) t r ≡ paired h t (own-to r)
     to-own (Step.Past n) = refl
     to-own (Step.Stop p) = refl
+
     go : (x : Bool) → led (cond x nowhere (enters (h .level) (h .groups))) e at (drop at t)
         ≡ paired h t (cond x (Pair.Stop e) (own-to (then-sign t (sign-at t at (ascii comma)) (ascii open-list))))
     go true = refl
@@ -84,14 +86,18 @@ other-read t at n found e k P = record { goes-on = λ h s. sign-read t at comma 
     ended : (h : Here) (r : Step) → passed h next-pair t r ≡ paired h t (other-to r)
     ended h (Step.Past m) = refl
     ended h (Step.Stop p) = refl
+
     behind : (h : Here) (k : Skip) → over h t k ≡ paired h t (skipped-to t k)
     behind h (Skip.Behind i) = sign-read t i close-tuple h next-pair ∙ ended h (sign-at t i (ascii close-tuple))
     behind h (Skip.Stop p) = refl
+
     begins : step-on t at (Step.Past n)
     begins = rw e at (sign-on t at (ascii comma))
+
     closes : (i : ℕ) → n ≤ i → (r : Step) → step-on t i r → pair-on t at found (other-to r)
     closes i l (Step.Past m) a = let b = begins .0 in (omega arith, a .1)
     closes i l (Step.Stop p) a = tt
+
     ahead : (k : Skip) → n ≤ reached k → pair-on t at found (skipped-to t k)
     ahead (Skip.Behind i) l = closes i l (sign-at t i (ascii close-tuple)) (sign-on t i (ascii close-tuple))
     ahead (Skip.Stop p) l = tt

@@ -14,7 +14,7 @@ ghost use Rattle.launch_file.specs.Reading.{own-pair, ending-at, read-as
 
 // A pair of a list: the own one of that list, and the place behind the bracket of its entry; another one, and the place behind
 // it; the end of the list, and the place behind that; or the place where it stops.
-pub enum Pair {
+enum Pair {
     Own(usize),
     Other(usize),
     Closed(usize),
@@ -22,7 +22,7 @@ pub enum Pair {
 }
 
 // A list of pairs: the place behind it, and the place behind the bracket of the groups in it; or the place where it stops.
-pub enum Listing {
+enum Listing {
     Ended(usize, usize),
     Stop(usize),
 }

@@ -1,6 +1,6 @@
 -- `launch_file::kernel_list` meets its contract: each pair is one turn. Assumes nothing.
 use borrow.Author.Needs.{needs}
-use mathlib.Core.Path.{_≡_, sym, ap, _∙_}
+use mathlib.Core.Path.{_≡_}
 use mathlib.Core.Bool.{cond}
 use Prim.Native.Nat.{_-_}
 use native.Mathlib.Omega.{arith}
@@ -16,10 +16,10 @@ use Rattle.launch_file.proofs.kernel_list.Statement.{statement}
 use Rattle.launch_file.proofs.kernel_list.Tie as tie
 
 abbrev Inv-loop : tie.InvT-loop
-Inv-loop text at j₀ begun₀ found₀ g₀ t13 j begun found g = Between kernel text at j begun found g
+Inv-loop text at j₀ begun₀ found₀ g₀ word j begun found g = Between kernel text at j begun found g
 
 abbrev μ-loop : tie.MeasureT-loop
-μ-loop text at j₀ begun₀ found₀ g₀ t13 j begun found g = length text - j
+μ-loop text at j₀ begun₀ found₀ g₀ word j begun found g = length text - j
 
 -- the pair at j
 turn : (c : tie.After-next-pair Inv-loop μ-loop) (r : Pair) → c .next-pair .result ≡ r
@@ -27,8 +27,9 @@ turn : (c : tie.After-next-pair Inv-loop μ-loop) (r : Pair) → c .next-pair .r
 turn c r e = rw e at (c .next-pair .ensures)
 
 -- the groups in it, and what closes the pair
-behind-groups : (c : tie.After-then-sign Inv-loop μ-loop) (r : Step) → c .then-sign .result ≡ r → then-sign (c .before .before .before .before .before .before .before .before .before .args .text .now) (pass-groups (c .before .before .before .before .before .before .before .before .before .args .text .now) (c .before .before .before .n3 .given .0 .0)) (ascii close-tuple) ≡ r
-behind-groups c r e = ap (λ x. then-sign (c .before .before .before .before .before .before .before .before .before .args .text .now) x (ascii close-tuple)) (sym (c .before .pass-groups .ensures)) ∙ sym (c .then-sign .ensures) ∙ e
+behind-groups : (c : tie.After-then-sign Inv-loop μ-loop) (r : Step) → c .then-sign .result ≡ r
+    → let t = c .before .before .before .before .before .before .before .before .before .args .text .now in then-sign t (pass-groups t (c .before .before .before .n3 .given .0 .0)) (ascii close-tuple) ≡ r
+behind-groups c r e = rw (← c .before .pass-groups .ensures, ← c .then-sign .ensures) e
 
 loop-holds : tie.Need-loop-holds Inv-loop μ-loop
 loop-holds c = between-first _ _ _ _

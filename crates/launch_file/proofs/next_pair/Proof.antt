@@ -1,6 +1,6 @@
 -- `launch_file::next_pair` meets its contract: what stands in the list decides. Assumes nothing.
 use borrow.Author.Needs.{needs}
-use mathlib.Core.Path.{_≡_, sym, _∙_}
+use mathlib.Core.Path.{sym, _∙_}
 use native.Mathlib.Omega.{arith}
 use Rattle.launch_file.specs.Pairs.{next-stops, next-pairs, next-closed, next-missing, closed-within}
 use Rattle.launch_file.proofs.next_pair.Statement.{statement}

@@ -1,6 +1,6 @@
 -- `launch_file::other_pair` meets its contract: each step is taken where the one before led. Assumes nothing.
 use borrow.Author.Needs.{needs}
-use mathlib.Core.Path.{_≡_, sym, _∙_}
+use mathlib.Core.Path.{sym, _∙_}
 use Rattle.launch_file.specs.Pairs.{other-cut, other-read, other-ends}
 use Rattle.launch_file.proofs.other_pair.Statement.{statement}
 use Rattle.launch_file.proofs.other_pair.Tie as tie

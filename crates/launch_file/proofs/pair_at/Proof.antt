@@ -1,6 +1,6 @@
 -- `launch_file::pair_at` meets its contract: the atom decides, and whether it is the own key. Assumes nothing.
 use borrow.Author.Needs.{needs}
-use mathlib.Core.Path.{_≡_, sym, _∙_}
+use mathlib.Core.Path.{sym, _∙_}
 use native.Mathlib.Omega.{arith}
 use Rattle.tokens.specs.Words.{same-by}
 use Rattle.walk.specs.Unfold.{atom-ahead}

@@ -124,6 +124,9 @@ atom-at-on t at = go (token-at t (dark t at)) (token-at-on t (dark t at))
     go (Token.Number n) h = tt
     go (Token.Neither p) h = tt
 
+pub atom-ahead : (t : List ℕ) (at s e n : ℕ) → atom-at t at ≡ Atom.Is s e n → ahead t at n × inside t s e
+atom-ahead t at s e n g = rw g at (atom-at-on t at)
+
 -- `normal`
 letter-on : (t : List ℕ) (at c : ℕ) (r : Step) → (at < length t → step-on t at r) → step-on t at (cond (ltb at (length t)) (cond (eqb (getD t at 0) c) r (Stop at)) (Stop at))
 letter-on t at c r h = go (ltb at (length t)) refl (eqb (getD t at 0) c)

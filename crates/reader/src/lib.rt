@@ -1,7 +1,10 @@
 // A reader: the text of a launch file together with a place in it, which messages name. The borrow checker covers no function
 // over such a struct, so each is thin, takes the struct apart for a covered function, and is proved by hand.
 ghost use mathlib.Core.Path.{_≡_};
+ghost use Rattle.grammar.specs.File.{outcome};
+ghost use Rattle.launch_file.specs.Read.{read-as};
 ghost use Rattle.position.specs.Position.{line-of, column-of};
+use launch_file::Reading;
 
 pub struct Reader<'a> {
     pub text: &'a [u8],
@@ -34,6 +37,20 @@ pub fn column<'a>(r: Reader<'a>) -> usize
     ensures { λ n. ⌜ n ≡ column-of (now (r .entry .text)) (r .entry .at) ⌝ }
 {
     position::column(r.text, r.at)
+}
+
+// Reads the whole text, wherever the place is.
+pub fn read<'a>(r: Reader<'a>) -> Reading
+    ensures { λ f. ⌜ outcome (now (r .entry .text)) ≡ read-as (now (r .entry .text)) f ⌝ }
+{
+    launch_file::read(r.text)
+}
+
+// Reads a text as a launch file.
+pub fn read_file(text: &[u8]) -> Reading
+    ensures { λ f. ⌜ outcome (now (text .entry)) ≡ read-as (now (text .entry)) f ⌝ }
+{
+    read(new(text))
 }
 
 // The line of a place of a text.

@@ -25,19 +25,27 @@ abbrev pub named : List Group → List ℕ → Bool
 named [] w = false
 named (k ∷ ks) w = same (k .name) w || named ks w
 
--- the groups that are made, of those to come behind the ones before, among all: where all of its name agree, the first of them
+-- a group of the name w with these nodes is made: all of its name agree, and none of them stood before
+abbrev pub made : List Group → List Group → List ℕ → List (List ℕ) → Bool
+made all before w ws = agreed all w ws && not (named before w)
+
+-- the groups that are made, of those to come behind the ones before, among all
 abbrev pub kept-of : List Group → List Group → List Group → List Group
 kept-of all before [] = []
 kept-of all before (g ∷ gs) =
-    cond (agreed all (g .name) (g .nodes) && not (named before (g .name))) (g ∷ kept-of all (before ++ (g ∷ [])) gs) (kept-of all (before ++ (g ∷ [])) gs)
+    cond (made all before (g .name) (g .nodes)) (g ∷ kept-of all (before ++ (g ∷ [])) gs) (kept-of all (before ++ (g ∷ [])) gs)
 
 abbrev pub kept : List Group → List Group
 kept gs = kept-of gs [] gs
 
--- the node w is in a group whose namesakes do not agree
+-- the node v is in a group of the name w with these nodes, and not all of its name agree
+abbrev pub torn : List Group → List ℕ → List (List ℕ) → List ℕ → Bool
+torn all w ws v = not (agreed all w ws) && among ws v
+
+-- the node v is in such a group
 abbrev pub clashing : List Group → List Group → List ℕ → Bool
-clashing all [] w = false
-clashing all (g ∷ gs) w = (not (agreed all (g .name) (g .nodes)) && among (g .nodes) w) || clashing all gs w
+clashing all [] v = false
+clashing all (g ∷ gs) v = torn all (g .name) (g .nodes) v || clashing all gs v
 
 abbrev pub clash : List Group → List ℕ → Bool
-clash gs w = clashing gs gs w
+clash gs v = clashing gs gs v

@@ -8,7 +8,7 @@ use native.Mathlib.Omega.{arith}
 use Rattle.tokens.specs.Reserved.{same, among}
 use Rattle.tokens.specs.Words.{same-eq, same-refl}
 use Rattle.grammar.specs.File.{Group}
-use Rattle.duplicates.specs.Duplicates.{covered, equal-nodes, agreed, named, kept-of, kept, clashing, clash}
+use Rattle.duplicates.specs.Duplicates.{covered, equal-nodes, agreed, named, made, kept-of, kept, clashing, clash}
 
 -- ---- tests
 
@@ -99,13 +99,17 @@ apart-agreed ks g gs h =
     go true = refl
     go false = refl
 
+-- and is made
+pub apart-made : (all ks : List Group) (g : Group) (gs : List Group) → apart all ≡ true → all ≡ ks ++ (g ∷ gs) → made all ks (g .name) (g .nodes) ≡ true
+apart-made all ks g gs h e =
+    let a : agreed all (g .name) (g .nodes) ≡ true = rw e (apart-agreed ks g gs (rw e at h)) in
+    rw (a, apart-at ks g gs (rw e at h) .0)
+
 module _ (all : List Group) (h : apart all ≡ true) where
   kept-rest : (ks gs : List Group) → all ≡ ks ++ gs → kept-of all ks gs ≡ gs
   kept-rest ks [] e = refl
   kept-rest ks (g ∷ gs) e =
-      let a : agreed all (g .name) (g .nodes) ≡ true = rw e (apart-agreed ks g gs (rw e at h)) in
-      let b : named ks (g .name) ≡ false = apart-at ks g gs (rw e at h) .0 in
-      rw (a, b) (ap (λ l. g ∷ l) (kept-rest (ks ++ (g ∷ [])) gs (e ∙ sym (append-assoc ks (g ∷ []) gs))))
+      rw (apart-made all ks g gs h e) (ap (λ l. g ∷ l) (kept-rest (ks ++ (g ∷ [])) gs (e ∙ sym (append-assoc ks (g ∷ []) gs))))
 
   clashing-rest : (w : List ℕ) (ks gs : List Group) → all ≡ ks ++ gs → clashing all gs w ≡ false
   clashing-rest w ks [] e = refl

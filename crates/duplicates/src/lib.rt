@@ -11,23 +11,15 @@ ghost use Rattle.tokens.specs.Reserved.{same, among};
 ghost use Rattle.walk.specs.Walk.{part};
 ghost use Rattle.walk.specs.Groups.{nodes, groups};
 ghost use Rattle.walk.specs.Unfold.{inside};
-ghost use Rattle.duplicates.specs.Duplicates.{covered, equal-nodes, agreed, named};
+ghost use Rattle.duplicates.specs.Duplicates.{covered, equal-nodes, agreed, named, made, torn, clash};
 ghost use Rattle.duplicates.specs.Names.{apart};
 ghost use Rattle.duplicates.specs.Next.{next-group};
-ghost use Rattle.duplicates.specs.Fates.{fate-of};
 ghost use Rattle.duplicates.specs.Stored.{stored};
 
 // The next group of the list: where its name begins and ends, the place of its first node, and the place behind it; or no group is left.
 pub enum Found {
     Group(usize, usize, usize, usize),
     End,
-}
-
-// What becomes of a group: it is made; or it is left out; or it is left out, and a node in it clashes.
-pub enum Fate {
-    Made,
-    Left,
-    Clash,
 }
 
 // The group at a place of the list, behind its bracket or, once it has begun, behind a group.
@@ -129,6 +121,16 @@ fn agreed(text: &[u8], g: usize, name: &[u8], at: usize) -> bool
     }
 }
 
+// Whether a node is among those at a place, and not every group of a name has these.
+fn torn(text: &[u8], g: usize, name: &[u8], at: usize, node: &[u8]) -> bool
+    ensures { λ r. ⌜ r ≡ torn (groups (now (text .entry)) g) (now (name .entry)) (nodes (now (text .entry)) at) (now (node .entry)) ⌝ }
+{
+    if !holds(text, at, node) {
+        return false;
+    }
+    !agreed(text, g, name, at)
+}
+
 // Whether one of the first so many groups has a name.
 fn named_among(text: &[u8], g: usize, count: usize, name: &[u8]) -> bool
     ensures { λ r. ⌜ r ≡ named (take count (groups (now (text .entry)) g)) (now (name .entry)) ⌝ }
@@ -152,20 +154,42 @@ fn named_among(text: &[u8], g: usize, count: usize, name: &[u8]) -> bool
     false
 }
 
-// What becomes of the group behind the first so many, which has a name and the nodes at a place, in the eyes of a node.
-pub fn fate_of(text: &[u8], g: usize, count: usize, name: &[u8], at: usize, node: &[u8]) -> Fate
-    ensures { λ r. ⌜ r ≡ fate-of (groups (now (text .entry)) g) (take count (groups (now (text .entry)) g)) (now (name .entry)) (nodes (now (text .entry)) at) (now (node .entry)) ⌝ }
+// Whether a group with a name and the nodes at a place, behind the first so many, is made. lone: it is, since no two groups have one name.
+pub fn made(text: &[u8], g: usize, lone: bool, count: usize, name: &[u8], at: usize) -> bool
+    requires { ⌜ (lone ≡ true → made (groups (now text) g) (take count (groups (now text) g)) (now name) (nodes (now text) at) ≡ true) ⌝ }
+    ensures { λ r. ⌜ r ≡ made (groups (now (text .entry)) g) (take count (groups (now (text .entry)) g)) (now (name .entry)) (nodes (now (text .entry)) at) ⌝ }
 {
+    if lone {
+        return true;
+    }
     if !agreed(text, g, name, at) {
-        if holds(text, at, node) {
-            return Fate::Clash;
+        return false;
+    }
+    !named_among(text, g, count, name)
+}
+
+// Whether a node is in a group whose namesakes do not agree. lone: there is none, since no two groups have one name.
+pub fn clashes(text: &[u8], g: usize, lone: bool, node: &[u8]) -> bool
+    requires { ⌜ (lone ≡ true → apart (groups (now text) g) ≡ true) ⌝ }
+    ensures { λ r. ⌜ r ≡ clash (groups (now (text .entry)) g) (now (node .entry)) ⌝ }
+{
+    if lone {
+        return false;
+    }
+    let mut j = g;
+    let mut begun = false;
+    loop {
+        match next_group(text, j, begun) {
+            Found::Group(s, e, m, n) => {
+                if torn(text, g, &text[s..e], m, node) {
+                    return true;
+                }
+                j = n;
+                begun = true;
+            }
+            Found::End => return false,
         }
-        return Fate::Left;
     }
-    if named_among(text, g, count, name) {
-        return Fate::Left;
-    }
-    Fate::Made
 }
 
 // How many groups the quick test takes.

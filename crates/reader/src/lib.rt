@@ -2,7 +2,7 @@
 // over such a struct, so each is thin, takes the struct apart for a covered function, and is proved by hand.
 ghost use mathlib.Core.Path.{_≡_};
 ghost use Rattle.grammar.specs.File.{outcome};
-ghost use Rattle.launch_file.specs.Read.{read-as};
+ghost use Rattle.launch_file.specs.Reading.{read-as};
 ghost use Rattle.position.specs.Position.{line-of, column-of};
 use launch_file::Reading;
 

@@ -37,7 +37,7 @@ use denote.Triple.Walked.{says, Stays, stay-none, walkOf, goes-none, Walks, ends
 use denote.Exit.{yes}
 use denote.Triple.Clauses.{ensured, lasts}
 use Rattle.grammar.specs.File.{outcome}
-use Rattle.launch_file.specs.Read.{read-as}
+use Rattle.launch_file.specs.Reading.{read-as}
 use Rattle.launch_file.specs.declared.Reading.{Reading}
 use Rattle.launch_file.proofs.Reading as S
 use Rattle.launch_file.proofs.Reading.Laws as S′

@@ -14,7 +14,7 @@ use Rattle.tokens.specs.Words.{no-zero, unlike, not-reserved}
 use Rattle.grammar.specs.File.{Group, Level, file, kernel, Here, Sign, comma, open-list, close-list, open-tuple, close-tuple, ascii, Bracket, list, tuple, closing, own-key, Use, key, name, node, Phase, sign, letters, atom, plain, quoted, first-pair, next-pair, first-group, next-group, kind, next-node, value, first, after, word, other, digits, full-stop, Move, goes, stops, dead, spaced, reads, ends-pairs, keyed, named, node-next, opens, begins, closes, separates, follows, step, Outcome, taken, refused, ends, onward, rest, outcome}
 
 -- some launch file begins with the first n bytes of t
-pub Shares : List ℕ → ℕ → Type 0
+unfoldable pub Shares : List ℕ → ℕ → Type 0
 Shares t n = (s : List ℕ) × (gs : List Group) × (outcome (take n t ++ s) ≡ taken gs)
 
 -- p is the greatest number of leading bytes of t that some launch file shares

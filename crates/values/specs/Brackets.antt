@@ -1,19 +1,16 @@
 -- Lists and tuples as values: their brackets and commas. Assumes nothing.
-use mathlib.Core.Path.{_≡_, refl, sym, _∙_}
-use mathlib.Core.Bool.{Bool, true, false, _&&_}
+use mathlib.Core.Path.{_≡_, refl}
+use mathlib.Core.Bool.{Bool, true, false, cond}
 use mathlib.Core.List.{List, _∷_}
-use Prim.Native.Nat.{ℕ, _+_, _≤_, _<_}
-use native.Mathlib.Omega.{arith}
-use borrow.Author.Tests.{lt-ltb, le-ltb, eq-eqb, ne-eqb, ltb-true, ltb-false, eqb-true, eqb-false}
+use Prim.Native.Nat.{ℕ, _+_, _<_}
+use borrow.Author.Tests.{eq-eqb, ne-eqb, eqb-true, eqb-false}
 use lib.Dec.{eqb, ltb}
 use lib.ListN.{length, getD}
 use Rattle.tokens.specs.Bytes.{white}
 use Rattle.tokens.specs.Tokens.{behind}
-use Rattle.tokens.specs.Within.{run-stops}
 use Rattle.tokens.specs.declared.Class.the-variants.{White}
-use Rattle.grammar.specs.File.{depth-limit, Here, comma, open-list, open-tuple, ascii, Bracket, list, tuple, closing, value, first, after, goes, spaced, opens, begins, closes, separates, follows, step, refused}
-use Rattle.grammar.specs.Steps.{from, from-step, from-dead, from-like, from-end, from-run}
-use Rattle.values.specs.Skipping.{stands-at}
+use Rattle.grammar.specs.File.{depth-limit, Here, comma, open-list, open-tuple, ascii, Bracket, list, tuple, closing, value, first, after, goes, dead, spaced, opens, begins, closes, separates, follows, step, refused}
+use Rattle.grammar.specs.Steps.{from, from-step, from-dead, from-like, from-run}
 
 -- the sign that opens a bracket
 abbrev pub opening-of : Bracket → ℕ
@@ -58,18 +55,23 @@ module _ (t : List ℕ) (i : ℕ) (l : i < length t) (dark : white (getD t i 0) 
   begins-with list due e = rw e
   begins-with tuple due e = rw e
 
-  -- within the limit, what stands in the bracket comes next
-  pub opening : (k : Bracket) (due : List Bracket) → getD t i 0 ≡ opening-of k → length due < depth-limit → from h due value t i ≡ from h (k ∷ due) first t (i + 1)
+  -- what stands in the bracket comes next, within the limit
+  pub opening : (k : Bracket) (due : List Bracket) → getD t i 0 ≡ opening-of k → from h due value t i ≡ cond (ltb (length due) depth-limit) (from h (k ∷ due) first t (i + 1)) (refused i)
   unfolding opens
-  opening k due e room = from-step t h due value i h (k ∷ due) first l (begins-with k due e ∙ rw (lt-ltb (length due) depth-limit room))
+  opening k due e = go (ltb (length due) depth-limit) (begins-with k due e)
+    where
+      go : (x : Bool) → step h due value (getD t i 0) ≡ cond x (goes h (k ∷ due) first) dead → from h due value t i ≡ cond x (from h (k ∷ due) first t (i + 1)) (refused i)
+      go true s = from-step t h due value i h (k ∷ due) first l s
+      go false s = from-dead t h due value i l s
 
-  -- beyond the limit, it is refused
-  pub too-deep : (k : Bracket) (due : List Bracket) → getD t i 0 ≡ opening-of k → depth-limit ≤ length due → from h due value t i ≡ refused i
-  unfolding opens
-  too-deep k due e full = from-dead t h due value i l (begins-with k due e ∙ rw (le-ltb (length due) depth-limit full))
+  -- a closing bracket is no value
+  pub no-value : (k : Bracket) (due : List Bracket) → getD t i 0 ≡ closing k → from h due value t i ≡ refused i
+  unfolding step spaced begins
+  no-value list due e = from-dead t h due value i l (rw e)
+  no-value tuple due e = from-dead t h due value i l (rw e)
 
   -- a closing bracket ends an empty list or tuple
-  pub closed-first : (k : Bracket) (due : List Bracket) → getD t i 0 ≡ closing k → from h (k ∷ due) first t i ≡ from h due after t (i + 1)
+  closed-first : (k : Bracket) (due : List Bracket) → getD t i 0 ≡ closing k → from h (k ∷ due) first t i ≡ from h due after t (i + 1)
   unfolding step spaced closes
   closed-first k due e = from-step t h (k ∷ due) first i h due after l (rw (dark, eq-eqb (getD t i 0) (closing k) e))
 
@@ -93,30 +95,10 @@ module _ (t : List ℕ) (i : ℕ) (l : i < length t) (dark : white (getD t i 0) 
   unfolding step spaced closes
   not-closed k due n = from-like t h (k ∷ due) first value i l (rw (dark, ne-eqb (getD t i 0) (closing k) n))
 
--- ---- what the test of a byte says
-
--- it stands there
-pub stands-there : (t : List ℕ) (i b : ℕ) → stands-at t i b ≡ true → (i < length t) × (getD t i 0 ≡ b)
-stands-there t i b e = go (ltb i (length t)) (eqb (getD t i 0) b) refl refl e
-  where
-    go : (x y : Bool) → ltb i (length t) ≡ x → eqb (getD t i 0) b ≡ y → (x && y) ≡ true → (i < length t) × (getD t i 0 ≡ b)
-    go true true p q r = (ltb-true i (length t) p, eqb-true (getD t i 0) b q)
-    go true false p q r = absurd (let z : _≡_ {A = ℕ} 0 1 = cc in omega arith)
-    go false y p q r = absurd (let z : _≡_ {A = ℕ} 0 1 = cc in omega arith)
-
--- another byte stands there
-pub stands-not : (t : List ℕ) (i b : ℕ) → stands-at t i b ≡ false → i < length t → eqb (getD t i 0) b ≡ false
-stands-not t i b e l = rw (lt-ltb i (length t) l) at e
-
--- behind white space, where the closing bracket does not stand, a value is to begin
-pub filled : (k : Bracket) (t : List ℕ) (h : Here) (due : List Bracket) (at : ℕ) → stands-at t (behind White t at) (closing k) ≡ false
-    → from h (k ∷ due) first t at ≡ from h (k ∷ due) value t (behind White t at)
-filled k t h due at n = white-first t h (k ∷ due) at ∙ go (ltb (behind White t at) (length t)) refl
-  where
-    go : (x : Bool) → ltb (behind White t at) (length t) ≡ x → from h (k ∷ due) first t (behind White t at) ≡ from h (k ∷ due) value t (behind White t at)
-    go true e =
-        let l = ltb-true (behind White t at) (length t) e in
-        not-closed t (behind White t at) l (run-stops White t at l) h k due (eqb-false _ _ (stands-not t (behind White t at) (closing k) n l))
-    go false e =
-        let l = ltb-false (behind White t at) (length t) e in
-        from-end t h (k ∷ due) first (behind White t at) l ∙ sym (from-end t h (k ∷ due) value (behind White t at) l)
+  -- behind an opening bracket, its closing one ends what it opened, and anything else is a value
+  pub begun-with : (k : Bracket) (due : List Bracket) → from h (k ∷ due) first t i ≡ cond (eqb (getD t i 0) (closing k)) (from h due after t (i + 1)) (from h (k ∷ due) value t i)
+  begun-with k due = go (eqb (getD t i 0) (closing k)) refl
+    where
+      go : (x : Bool) → eqb (getD t i 0) (closing k) ≡ x → from h (k ∷ due) first t i ≡ cond x (from h due after t (i + 1)) (from h (k ∷ due) value t i)
+      go true e = closed-first k due (eqb-true (getD t i 0) (closing k) e)
+      go false e = not-closed k due (eqb-false (getD t i 0) (closing k) e)

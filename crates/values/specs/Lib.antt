@@ -2,4 +2,5 @@
 pub mod Skipping
 pub mod Plain
 pub mod Brackets
+pub mod Items
 pub mod Skips

@@ -6,20 +6,20 @@ use Prim.Native.Nat.{ℕ, suc, _+_, _-_, _≤_, _<_}
 use native.Mathlib.Nat.{le-refl}
 use native.Mathlib.Numerals.{add-one}
 use native.Mathlib.Omega.{arith}
-use borrow.Author.Tests.{ltb-true, ltb-false}
+use borrow.Author.Tests.{lt-ltb, ltb-true, ltb-false, ne-eqb}
 use lib.Dec.{eqb, ltb}
 use lib.ListN.{length, drop, take, getD}
 use lib.Seq.{drop-cons, drop-drop}
 use Rattle.tokens.specs.Bytes.{has, white, small, digit, quote, name-byte}
 use Rattle.tokens.specs.Runs.{run-of}
 use Rattle.tokens.specs.Reserved.{is-reserved}
-use Rattle.tokens.specs.Within.{run-none, run-stops}
+use Rattle.tokens.specs.Within.{run-none, run-within, run-stops}
 use Rattle.tokens.specs.Tokens.{behind, plain-to, plain-at, quoted-to, quoted-at, token-at}
 use Rattle.tokens.specs.declared.Class.the-variants.{Name, Digit, Quoted}
 use Rattle.tokens.specs.declared.Token.the-variants.{Atom, Number, Neither}
 use Rattle.grammar.specs.File.{Here, open-list, open-tuple, ascii, Bracket, value, after, word, other, digits, goes, dead, spaced, begins, step, refused, rest}
 use Rattle.grammar.specs.Steps.{from, from-step, from-dead, from-end, from-run, letters-run}
-use Rattle.values.specs.Skipping.{resumed, reached, skip-of}
+use Rattle.values.specs.Skipping.{resumed, beyond, skip-of}
 
 module _ (h : Here) (due : List Bracket) where
   -- ---- a plain atom
@@ -134,43 +134,40 @@ module _ (h : Here) (due : List Bracket) where
   -- ---- whichever stands there
 
   -- where no bracket and no white space stands, the token decides
-  pub plain-goes-on : (t : List ℕ) (at : ℕ)
-      → (at < length t → (white (getD t at 0) ≡ false) × (eqb (getD t at 0) (ascii open-list) ≡ false) × (eqb (getD t at 0) (ascii open-tuple) ≡ false))
+  pub plain-goes-on : (t : List ℕ) (at : ℕ) → at < length t → white (getD t at 0) ≡ false → (getD t at 0 ≡ ascii open-list → ⊥) → (getD t at 0 ≡ ascii open-tuple → ⊥)
       → from h due value t at ≡ resumed h due t (skip-of (token-at t at))
   unfolding token-at step spaced begins
-  plain-goes-on t at plain = whole (ltb at (length t)) refl
+  plain-goes-on t at l dark a b = rw (lt-ltb at (length t) l) (by-byte (small (getD t at 0)) (eqb (getD t at 0) quote) (digit (getD t at 0)) refl refl refl)
     where
-      move : (x y z : Bool) → small (getD t at 0) ≡ x → eqb (getD t at 0) quote ≡ y → digit (getD t at 0) ≡ z → at < length t
+      move : (x y z : Bool) → small (getD t at 0) ≡ x → eqb (getD t at 0) quote ≡ y → digit (getD t at 0) ≡ z
           → step h due value (getD t at 0) ≡ cond x (goes h due (word (getD t at 0 ∷ []))) (cond y (goes h due other) (cond z (goes h due digits) dead))
-      move x y z p q r l = let (w, o, u) = plain l in rw (w, p, q, r, o, u)
+      move x y z p q r = rw (dark, p, q, r, ne-eqb (getD t at 0) (ascii open-list) a, ne-eqb (getD t at 0) (ascii open-tuple) b)
 
-      by-byte : (x y z : Bool) → small (getD t at 0) ≡ x → eqb (getD t at 0) quote ≡ y → digit (getD t at 0) ≡ z → at < length t
+      by-byte : (x y z : Bool) → small (getD t at 0) ≡ x → eqb (getD t at 0) quote ≡ y → digit (getD t at 0) ≡ z
           → from h due value t at ≡ resumed h due t (skip-of (cond x (plain-at t at) (cond y (quoted-at t (at + 1)) (cond z (Number (behind Digit t (at + 1))) (Neither at)))))
-      by-byte true y z p q r l = from-step t h due value at h due (word (getD t at 0 ∷ [])) l (move true y z p q r l) ∙ plain-goes t at l
-      by-byte false true z p q r l = from-step t h due value at h due other l (move false true z p q r l) ∙ quoted-goes t (at + 1)
-      by-byte false false true p q r l = from-step t h due value at h due digits l (move false false true p q r l) ∙ from-digits t (at + 1)
-      by-byte false false false p q r l = from-dead t h due value at l (move false false false p q r l)
+      by-byte true y z p q r = from-step t h due value at h due (word (getD t at 0 ∷ [])) l (move true y z p q r) ∙ plain-goes t at l
+      by-byte false true z p q r = from-step t h due value at h due other l (move false true z p q r) ∙ quoted-goes t (at + 1)
+      by-byte false false true p q r = from-step t h due value at h due digits l (move false false true p q r) ∙ from-digits t (at + 1)
+      by-byte false false false p q r = from-dead t h due value at l (move false false false p q r)
 
-      whole : (x : Bool) → ltb at (length t) ≡ x
-          → from h due value t at
-          ≡ resumed h due t (skip-of (cond x (cond (small (getD t at 0)) (plain-at t at) (cond (eqb (getD t at 0) quote) (quoted-at t (at + 1)) (cond (digit (getD t at 0)) (Number (behind Digit t (at + 1))) (Neither at)))) (Neither at)))
-      whole true l = by-byte (small (getD t at 0)) (eqb (getD t at 0) quote) (digit (getD t at 0)) refl refl refl (ltb-true at (length t) l)
-      whole false l = from-end t h due value at (ltb-false at (length t) l)
-
--- the place that is reached
-pub plain-ahead : (t : List ℕ) (at : ℕ) → at ≤ reached (skip-of (token-at t at))
+-- what is reached stands further on, within the text
+pub plain-beyond : (t : List ℕ) (at : ℕ) → at < length t → beyond at t (skip-of (token-at t at))
 unfolding token-at plain-at plain-to quoted-at quoted-to
-plain-ahead t at = go (ltb at (length t)) (small (getD t at 0)) (eqb (getD t at 0) quote) (digit (getD t at 0))
-    (is-reserved (take (behind Name t (at + 1) - at) (drop at t))) (ltb (behind Quoted t (at + 1)) (length t)) (eqb (getD t (behind Quoted t (at + 1)) 0) quote)
+plain-beyond t at l =
+    rw (lt-ltb at (length t) l)
+    (go (small (getD t at 0)) (eqb (getD t at 0) quote) (digit (getD t at 0)) (is-reserved (take (behind Name t (at + 1) - at) (drop at t)))
+    (ltb (behind Quoted t (at + 1)) (length t)) refl (eqb (getD t (behind Quoted t (at + 1)) 0) quote)
+    (run-within Name t (at + 1) (omega arith)) (run-within Quoted t (at + 1) (omega arith)) (run-within Digit t (at + 1) (omega arith)))
   where
-    go : (l x y z u v w : Bool) → at ≤ reached (skip-of (cond l (cond x (cond u (Neither (behind Name t (at + 1))) (Atom at (behind Name t (at + 1)) (behind Name t (at + 1))))
+    go : (x y z u v : Bool) → ltb (behind Quoted t (at + 1)) (length t) ≡ v → (w : Bool)
+        → behind Name t (at + 1) ≤ length t → behind Quoted t (at + 1) ≤ length t → behind Digit t (at + 1) ≤ length t
+        → beyond at t (skip-of (cond x (cond u (Neither (behind Name t (at + 1))) (Atom at (behind Name t (at + 1)) (behind Name t (at + 1))))
         (cond y (cond v (cond w (Atom (at + 1) (behind Quoted t (at + 1)) (behind Quoted t (at + 1) + 1)) (Neither (behind Quoted t (at + 1)))) (Neither (behind Quoted t (at + 1))))
-        (cond z (Number (behind Digit t (at + 1))) (Neither at)))) (Neither at)))
-    go false x y z u v w = le-refl at
-    go true true y z true v w = omega arith
-    go true true y z false v w = omega arith
-    go true false true z u true true = omega arith
-    go true false true z u true false = omega arith
-    go true false true z u false w = omega arith
-    go true false false true u v w = omega arith
-    go true false false false u v w = le-refl at
+        (cond z (Number (behind Digit t (at + 1))) (Neither at)))))
+    go true y z true v e w a b d = (omega arith, a)
+    go true y z false v e w a b d = (omega arith, a)
+    go false true z u true e true a b d = (omega arith, omega (arith, ltb-true (behind Quoted t (at + 1)) (length t) e))
+    go false true z u true e false a b d = (omega arith, b)
+    go false true z u false e w a b d = (omega arith, b)
+    go false false true u v e w a b d = (omega arith, d)
+    go false false false u v e w a b d = (le-refl at, omega arith)

@@ -1,7 +1,11 @@
 // Skipping the value of a pair: an atom, a number, or a list or a tuple of values, nested to a depth.
 ghost use mathlib.Core.Path.{_≡_};
+ghost use Prim.Native.Nat.{_≤_, _<_};
+ghost use lib.ListN.{length};
+ghost use Rattle.tokens.specs.Tokens.{token-at};
 ghost use Rattle.grammar.specs.File.{list, tuple};
-ghost use Rattle.values.specs.Skipping.{skip-of, stands-at, Emptied, Separated, Passed-over};
+ghost use Rattle.values.specs.Skipping.{skip-of, skip-of-number, Next-item, To-bracket, Emptied, Passed-over};
+ghost use Rattle.values.specs.declared.Skip.the-variants as Skip;
 use tokens::Token;
 
 // What skipping answers: the place behind what is skipped, or the place of the first byte that no value has there.
@@ -10,131 +14,158 @@ pub enum Skip {
     Stop(usize),
 }
 
-// What stands behind a value between brackets: where the next value is to begin, the place behind the closing bracket, or the
-// place of a byte that is neither a comma nor that bracket.
-enum Next {
-    Value(usize),
-    Closed(usize),
-    Stop(usize),
-}
-
 // Lists and tuples nest so deep.
 const DEPTH: usize = 16;
 
-// An atom or a number is skipped.
-fn plain(t: Token) -> Skip
-    ensures { λ r. ⌜ r ≡ skip-of t ⌝ }
+// The number for a stop at a place. Skippers answer a number: a place within the text is the place behind what is skipped, and a
+// number beyond the text stands for a stop. A number comes back in a register; the room for an enum would stand in the frame of each
+// bracket that is open, and more than double it.
+fn stop(text: &[u8], at: usize) -> usize
+    requires { ⌜ at ≤ length (now text) ⌝ }
+    ensures { λ r. ⌜ skip-of-number (now (text .entry)) r ≡ Skip.Stop at ⌝ }
 {
-    match t {
-        Token::Atom(_, _, n) => Skip::Behind(n),
-        Token::Number(n) => Skip::Behind(n),
-        Token::Neither(p) => Skip::Stop(p),
+    text.len() + 1 + at
+}
+
+// Skips the atom or the number at a place.
+fn plain(text: &[u8], at: usize) -> usize
+    requires { ⌜ at < length (now text) ⌝ }
+    ensures { λ r. ⌜ skip-of-number (now (text .entry)) r ≡ skip-of (token-at (now (text .entry)) at) ⌝ }
+{
+    match tokens::token_at(text, at) {
+        Token::Atom(_, _, n) => n,
+        Token::Number(n) => n,
+        Token::Neither(p) => stop(text, p),
     }
 }
 
-// Whether b stands at a place.
-fn stands(text: &[u8], at: usize, b: u8) -> bool
-    ensures { λ r. ⌜ r ≡ stands-at (now (text .entry)) at b ⌝ }
-{
-    if text.len() <= at {
-        return false;
-    }
-    text[at] == b
-}
-
-// What stands behind a value between brackets, of which close is the second.
-fn next_value(text: &[u8], at: usize, close: u8) -> Next
-    ensures { λ r. ⌜ Separated close (now (text .entry)) at r ⌝ }
+// The place of the next item between brackets, of which close is the second, or of that bracket. A comma stands before each item
+// but the first, which follows where the bracket is opened.
+fn next_item(text: &[u8], at: usize, close: u8, opened: bool) -> usize
+    requires { ⌜ at ≤ length (now text) ⌝ }
+    ensures { λ r. ⌜ Next-item close (now (text .entry)) at opened (skip-of-number (now (text .entry)) r) ⌝ }
 {
     let i = tokens::past_white(text, at);
     if text.len() <= i {
-        return Next::Stop(i);
+        return stop(text, i);
+    }
+    if opened {
+        return i;
     }
     let b = text[i];
-    let past = i + 1;
     if b == close {
-        return Next::Closed(past);
+        return i;
     }
-    if b == b',' {
-        return Next::Value(past);
+    if b != b',' {
+        return stop(text, i);
     }
-    Next::Stop(i)
+    let past = i + 1;
+    let n = tokens::past_white(text, past);
+    if text.len() <= n {
+        return stop(text, n);
+    }
+    if text[n] == close {
+        return stop(text, n);
+    }
+    n
 }
 
-// Skips the values of a list and its closing bracket, from behind the opening one. Lists and tuples hold each other, so the
-// skippers of both call each other, with the depth that is left falling.
-fn skip_list(text: &[u8], at: usize, depth: usize) -> Skip
-    ensures { λ r. ⌜ Emptied list (now (text .entry)) at depth r ⌝ }
+// Skips the items that are no brackets, and the first bracket, which closes or opens.
+fn flat(text: &[u8], at: usize, close: u8, opened: bool) -> usize
+    requires { ⌜ at ≤ length (now text) ⌝ }
+    ensures { λ r. ⌜ To-bracket close (now (text .entry)) at opened (skip-of-number (now (text .entry)) r) ⌝ }
 {
-    let i = tokens::past_white(text, at);
-    if stands(text, i, b']') {
-        let past = i + 1;
-        return Skip::Behind(past);
-    }
-    let mut j = i;
+    let mut j = at;
+    let mut first = opened;
     loop {
-        let k = tokens::past_white(text, j);
-        let item = if stands(text, k, b'[') {
-            if depth == 0 {
-                return Skip::Stop(k);
-            }
-            skip_list(text, k + 1, depth - 1)
-        } else if stands(text, k, b'{') {
-            if depth == 0 {
-                return Skip::Stop(k);
-            }
-            skip_tuple(text, k + 1, depth - 1)
-        } else {
-            plain(tokens::token_at(text, k))
-        };
-        match item {
-            Skip::Stop(p) => return Skip::Stop(p),
-            Skip::Behind(e) => match next_value(text, e, b']') {
-                Next::Value(n) => {
-                    j = n;
-                }
-                Next::Closed(n) => return Skip::Behind(n),
-                Next::Stop(p) => return Skip::Stop(p),
-            },
+        let i = next_item(text, j, close, first);
+        if text.len() < i {
+            return i;
         }
+        let b = text[i];
+        let past = i + 1;
+        if b == close {
+            return past;
+        }
+        if b == b'[' {
+            return past;
+        }
+        if b == b'{' {
+            return past;
+        }
+        let n = plain(text, i);
+        if text.len() < n {
+            return n;
+        }
+        j = n;
+        first = false;
+    }
+}
+
+// Skips the items of a list and its closing bracket, from behind the opening one. Lists and tuples nest, each holding the other,
+// so the skippers of both call each other, with the depth that is left falling.
+fn skip_list(text: &[u8], at: usize, depth: usize) -> usize
+    requires { ⌜ at ≤ length (now text) ⌝ }
+    ensures { λ r. ⌜ Emptied list (now (text .entry)) at depth (skip-of-number (now (text .entry)) r) ⌝ }
+{
+    let mut j = at;
+    let mut opened = true;
+    loop {
+        let n = flat(text, j, b']', opened);
+        if text.len() < n {
+            return n;
+        }
+        let i = n - 1;
+        let b = text[i];
+        if b == b']' {
+            return n;
+        }
+        if depth == 0 {
+            return stop(text, i);
+        }
+        let e = if b == b'[' {
+            skip_list(text, n, depth - 1)
+        } else {
+            skip_tuple(text, n, depth - 1)
+        };
+        if text.len() < e {
+            return e;
+        }
+        j = e;
+        opened = false;
     }
 }
 
 // The same of a tuple.
-fn skip_tuple(text: &[u8], at: usize, depth: usize) -> Skip
-    ensures { λ r. ⌜ Emptied tuple (now (text .entry)) at depth r ⌝ }
+fn skip_tuple(text: &[u8], at: usize, depth: usize) -> usize
+    requires { ⌜ at ≤ length (now text) ⌝ }
+    ensures { λ r. ⌜ Emptied tuple (now (text .entry)) at depth (skip-of-number (now (text .entry)) r) ⌝ }
 {
-    let i = tokens::past_white(text, at);
-    if stands(text, i, b'}') {
-        let past = i + 1;
-        return Skip::Behind(past);
-    }
-    let mut j = i;
+    let mut j = at;
+    let mut opened = true;
     loop {
-        let k = tokens::past_white(text, j);
-        let item = if stands(text, k, b'[') {
-            if depth == 0 {
-                return Skip::Stop(k);
-            }
-            skip_list(text, k + 1, depth - 1)
-        } else if stands(text, k, b'{') {
-            if depth == 0 {
-                return Skip::Stop(k);
-            }
-            skip_tuple(text, k + 1, depth - 1)
-        } else {
-            plain(tokens::token_at(text, k))
-        };
-        match item {
-            Skip::Stop(p) => return Skip::Stop(p),
-            Skip::Behind(e) => match next_value(text, e, b'}') {
-                Next::Value(n) => {
-                    j = n;
-                }
-                Next::Closed(n) => return Skip::Behind(n),
-                Next::Stop(p) => return Skip::Stop(p),
-            },
+        let n = flat(text, j, b'}', opened);
+        if text.len() < n {
+            return n;
         }
+        let i = n - 1;
+        let b = text[i];
+        if b == b'}' {
+            return n;
+        }
+        if depth == 0 {
+            return stop(text, i);
+        }
+        let e = if b == b'[' {
+            skip_list(text, n, depth - 1)
+        } else {
+            skip_tuple(text, n, depth - 1)
+        };
+        if text.len() < e {
+            return e;
+        }
+        j = e;
+        opened = false;
     }
 }
 
@@ -143,11 +174,20 @@ pub fn skip_value(text: &[u8], at: usize) -> Skip
     ensures { λ r. ⌜ Passed-over (now (text .entry)) at r ⌝ }
 {
     let i = tokens::past_white(text, at);
-    if stands(text, i, b'[') {
-        return skip_list(text, i + 1, DEPTH - 1);
+    if text.len() <= i {
+        return Skip::Stop(i);
     }
-    if stands(text, i, b'{') {
-        return skip_tuple(text, i + 1, DEPTH - 1);
+    let b = text[i];
+    let r = if b == b'[' {
+        skip_list(text, i + 1, DEPTH - 1)
+    } else if b == b'{' {
+        skip_tuple(text, i + 1, DEPTH - 1)
+    } else {
+        plain(text, i)
+    };
+    if text.len() < r {
+        let p = r - text.len() - 1;
+        return Skip::Stop(p);
     }
-    plain(tokens::token_at(text, i))
+    Skip::Behind(r)
 }

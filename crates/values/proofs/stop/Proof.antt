@@ -1,0 +1,18 @@
+-- `values::stop` meets its contract: its number stands for that stop.
+-- Assumes nothing.
+use borrow.Author.Needs.{needs}
+use Rattle.values.specs.Items.{number-of-stop}
+use Rattle.values.proofs.stop.Statement.{statement}
+use Rattle.values.proofs.stop.Tie as tie
+
+add-result : tie.Need-add-result
+add-result c = search needs
+
+add-result-2 : tie.Need-add-result-2
+add-result-2 c = search needs
+
+returns : tie.Need-returns
+returns c = number-of-stop _ _
+
+pub stop-spec : {M : Type 1} → statement M
+stop-spec = tie.close (tie.spec add-result add-result-2 returns)

@@ -18,14 +18,14 @@ const HIGH_FACTOR: u64 = 1540483477;
 const LOW_DIGITS: u64 = 16777216;
 
 // A byte as a number of 64 bits.
-fn wide(b: u8) -> u64
+pub fn wide(b: u8) -> u64
     ensures { λ r. ⌜ (r ≡ b) × (r < 256) ⌝ }
 {
     b as u64
 }
 
 // The two bytes at a place as one number.
-fn two(text: &[u8], at: usize) -> u64
+pub fn two(text: &[u8], at: usize) -> u64
     requires { ⌜ at + 2 ≤ length (now text) ⌝ }
     ensures { λ r. ⌜ (r ≡ two (now (text .entry)) at) × (r < 65536) ⌝ }
 {

@@ -1,0 +1,166 @@
+// What is to be made of the groups of a launch file: the number and the nodes of each, by the book.
+use duplicates::Found;
+use walk::Node;
+ghost use mathlib.Core.Path.{_≡_};
+ghost use mathlib.Core.Bool.{true};
+ghost use Prim.Native.Nat.{ℕ, _*_};
+ghost use lib.ListN.{length, take};
+ghost use Rattle.semantics.specs.Sizes.{group-limit};
+ghost use Rattle.walk.specs.Groups.{nodes, groups};
+ghost use Rattle.book.specs.Book.{node-atoms};
+ghost use Rattle.book.specs.Index.{Indexed};
+ghost use Rattle.duplicates.specs.Duplicates.{kept};
+ghost use Rattle.duplicates.specs.Names.{apart};
+ghost use Rattle.plan.specs.Plan.{plan-words, fitting, verdict};
+ghost use Rattle.plan.specs.Looked.{members, entered, put};
+
+// What speaks against the groups, first of all, or how many are to be made.
+pub enum Plan {
+    // the starting node is in a group whose namesakes do not agree
+    Clash,
+    // an atom is not in the book
+    Unknown,
+    TooMany,
+    Fits(usize),
+}
+
+// The nodes of a group by the book; or one of them is not on the roster.
+enum Members {
+    Are(u64),
+    Unknown,
+}
+
+// A group by the book: its number and its nodes; or an atom of it is not there.
+enum Entered {
+    Group(u64, u64),
+    Unknown,
+}
+
+// The nodes at a place, by the book.
+fn members_at(text: &[u8], at: usize, book: &[u8], n: u32, index: &[u8]) -> Members
+    requires { ⌜ Indexed n (now book) (now index) ⌝ }
+    ensures { λ r. ⌜ r ≡ members (node-atoms n (now (book .entry))) 0 (nodes (now (text .entry)) at) ⌝ }
+{
+    let mut set: u64 = 0;
+    let mut j = at;
+    loop {
+        match walk::node_at(text, j) {
+            Node::More(s, e, next) => {
+                let i = book::node_of(book, n, index, &text[s..e]);
+                if n <= i {
+                    return Members::Unknown;
+                }
+                set = nodes::with(set, i);
+                j = next;
+            }
+            Node::Last(s, e, _) => {
+                let i = book::node_of(book, n, index, &text[s..e]);
+                if n <= i {
+                    return Members::Unknown;
+                }
+                return Members::Are(nodes::with(set, i));
+            }
+            Node::Stop(_) => return Members::Are(set),
+        }
+    }
+}
+
+// A group with a name and the nodes at a place, by the book.
+fn enter(text: &[u8], name: &[u8], at: usize, book: &[u8], n: u32, index: &[u8]) -> Entered
+    requires { ⌜ Indexed n (now book) (now index) ⌝ }
+    ensures { λ r. ⌜ r ≡ entered n (now (book .entry)) (now (name .entry)) (nodes (now (text .entry)) at) ⌝ }
+{
+    let i = book::group_of(book, n, index, name);
+    if book::group_count(book, n, index) <= i {
+        return Entered::Unknown;
+    }
+    match members_at(text, at, book, n, index) {
+        Members::Are(set) => {
+            let number = i as u64 + 1;
+            Entered::Group(number, set)
+        }
+        Members::Unknown => Entered::Unknown,
+    }
+}
+
+// The two words of the group k are written, where there is room for them.
+fn put(words: &mut [u64], k: usize, number: u64, set: u64)
+    requires { ⌜ length (now words) ≡ 2 * group-limit ⌝ }
+    ensures { λ r. ⌜ now (words .exit) ≡ put (now (words .entry)) k number set ⌝ }
+{
+    if k < layout::GROUP_LIMIT {
+        let at = 2 * k;
+        words[at] = number;
+        let next = at + 1;
+        words[next] = set;
+    }
+}
+
+// The plan where no node clashes.
+fn fitted(
+    text: &[u8],
+    g: usize,
+    lone: bool,
+    book: &[u8],
+    n: u32,
+    index: &[u8],
+    words: &mut [u64],
+) -> Plan
+    requires { ⌜ (lone ≡ true → apart (groups (now text) g) ≡ true) ⌝ }
+    requires { ⌜ Indexed n (now book) (now index) ⌝ }
+    requires { ⌜ length (now words) ≡ 2 * group-limit ⌝ }
+    ensures { λ r. ⌜ r ≡ fitting n (now (book .entry)) (kept (groups (now (text .entry)) g)) ⌝ }
+    ensures { λ r. ⌜ ((k : ℕ) → r ≡ Plan.Fits k → take (2 * k) (now (words .exit)) ≡ plan-words n (now (book .entry)) (kept (groups (now (text .entry)) g))) ⌝ }
+{
+    let mut count = 0;
+    let mut k = 0;
+    let mut j = g;
+    let mut begun = false;
+    loop {
+        match duplicates::next_group(text, j, begun) {
+            Found::Group(s, e, m, next) => {
+                if duplicates::made(text, g, lone, count, &text[s..e], m) {
+                    match enter(text, &text[s..e], m, book, n, index) {
+                        Entered::Group(number, set) => {
+                            put(words, k, number, set);
+                            k += 1;
+                        }
+                        Entered::Unknown => return Plan::Unknown,
+                    }
+                }
+                count += 1;
+                j = next;
+                begun = true;
+            }
+            Found::End => {
+                if layout::GROUP_LIMIT < k {
+                    return Plan::TooMany;
+                }
+                return Plan::Fits(k);
+            }
+        }
+    }
+}
+
+// What is to be made of the groups of the list whose bracket stands in front of g, by a book for n nodes, from the starting node on. Where they fit, the first
+// words have a number and a set for each.
+pub fn plan_of(
+    text: &[u8],
+    g: usize,
+    book: &[u8],
+    n: u32,
+    index: &[u8],
+    start: u32,
+    words: &mut [u64],
+) -> Plan
+    requires { ⌜ Indexed n (now book) (now index) ⌝ }
+    requires { ⌜ length (now words) ≡ 2 * group-limit ⌝ }
+    ensures { λ r. ⌜ r ≡ verdict n (now (book .entry)) start (groups (now (text .entry)) g) ⌝ }
+    ensures { λ r. ⌜ ((k : ℕ) → r ≡ Plan.Fits k → take (2 * k) (now (words .exit)) ≡ plan-words n (now (book .entry)) (kept (groups (now (text .entry)) g))) ⌝ }
+{
+    let lone = duplicates::apart(text, g);
+    if duplicates::clashes(text, g, lone, book::line(book, start as usize)) {
+        return Plan::Clash;
+    }
+    fitted(text, g, lone, book, n, index, words)
+}

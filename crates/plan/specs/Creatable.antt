@@ -20,13 +20,13 @@ use Rattle.walk.specs.Groups.{groups}
 use Rattle.book.specs.Book.{lines, group-atoms, fit, place-of, node-atoms, group-atoms-of}
 use Rattle.book.specs.PlaceLaws.{place-among}
 use Rattle.book.specs.Hinting.{fit-few}
-use Rattle.duplicates.specs.Duplicates.{covered, named, kept}
+use Rattle.duplicates.specs.Duplicates.{covered, named, kept, clash}
 use Rattle.duplicates.specs.Names.{both, neither, apart, apart-at, kept-apart}
-use Rattle.plan.specs.Plan.{number-of, set-with, set-of, listed, all-listed, plan-words, fitting}
+use Rattle.plan.specs.Plan.{number-of, set-with, set-of, listed, all-listed, plan-words, fitting, verdict}
 use Rattle.plan.specs.Looked.{fit-nodes}
 use Rattle.plan.specs.Turns.{all-listed-append, plan-words-append}
 use Rattle.plan.specs.Peopled.{some-node, peopled, groups-peopled, kept-peopled}
-use Rattle.plan.specs.declared.Plan.the-variants.{Unknown, TooMany, Fits}
+use Rattle.plan.specs.declared.Plan.the-variants.{Clash, Unknown, TooMany, Fits}
 
 -- a group has the number m
 abbrev pub numbered : ℕ → List ℕ → List Group → ℕ → Bool
@@ -137,28 +137,41 @@ module _ (N : ℕ) (book : List ℕ) (ks : List Group) (g : Group) (gs : List Gr
 
 -- ---- every group that is kept
 
--- groups that fit are in the book, and not too many
-fitting-parts : (N : ℕ) (book : List ℕ) (gs : List Group) (k : ℕ) → fitting N book gs ≡ Fits k → (all-listed N book gs ≡ true) × (length gs ≤ group-limit)
+-- groups that fit are in the book, as many as are said, and not too many
+pub record Fitting (N : ℕ) (book : List ℕ) (gs : List Group) (k : ℕ) : Type 0 where
+  pub known : all-listed N book gs ≡ true
+  pub many : length gs ≡ k
+  pub few : k ≤ group-limit
+
+fitting-parts : (N : ℕ) (book : List ℕ) (gs : List Group) (k : ℕ) → fitting N book gs ≡ Fits k → Fitting N book gs k
 unfolding fitting
-fitting-parts N book gs k h = go (all-listed N book gs) (ltb group-limit (length gs)) refl h
+fitting-parts N book gs k h = go (all-listed N book gs) refl (ltb group-limit (length gs)) refl h
   where
-    go : (a b : Bool) → ltb group-limit (length gs) ≡ b → cond (not a) Unknown (cond b TooMany (Fits (length gs))) ≡ Fits k
-        → (a ≡ true) × (length gs ≤ group-limit)
-    go true true e q = absurd (let z : _≡_ {A = ℕ} 0 1 = cc in omega arith)
-    go true false e q = (refl, ltb-false group-limit (length gs) e)
-    go false b e q = absurd (let z : _≡_ {A = ℕ} 0 1 = cc in omega arith)
+    go : (a : Bool) → all-listed N book gs ≡ a → (b : Bool) → ltb group-limit (length gs) ≡ b
+        → cond (not a) Unknown (cond b TooMany (Fits (length gs))) ≡ Fits k → Fitting N book gs k
+    go true p true e q = absurd (let z : _≡_ {A = ℕ} 0 1 = cc in omega arith)
+    go true p false e q = let m : length gs ≡ k = cc in record { known = p; many = m; few = omega (arith, ltb-false group-limit (length gs) e) }
+    go false p b e q = absurd (let z : _≡_ {A = ℕ} 0 1 = cc in omega arith)
+
+pub verdict-fits : (N : ℕ) (book : List ℕ) (start : ℕ) (gs : List Group) (k : ℕ) → verdict N book start gs ≡ Fits k → Fitting N book (kept gs) k
+unfolding verdict
+verdict-fits N book start gs k h = fitting-parts N book (kept gs) k (go (clash gs (getD (lines book) start [])) h)
+  where
+    go : (c : Bool) → cond c Clash (fitting N book (kept gs)) ≡ Fits k → fitting N book (kept gs) ≡ Fits k
+    go true q = absurd (let z : _≡_ {A = ℕ} 0 1 = cc in omega arith)
+    go false q = q
 
 peopled-at : (ks : List Group) (g : Group) (gs : List Group) → peopled (ks ++ (g ∷ gs)) ≡ true → some-node (g .nodes) ≡ true
 peopled-at [] g gs h = both (some-node (g .nodes)) (peopled gs) h .0
 peopled-at (k ∷ ks) g gs h = peopled-at ks g gs (both (some-node (k .nodes)) (peopled (ks ++ (g ∷ gs))) h .1)
 
 module _ (N : ℕ) (book : List ℕ) (fits : fit N book ≡ true) (small : N ≤ node-limit) where
-  pub creatable : (t : List ℕ) (at k : ℕ) → fitting N book (kept (groups t at)) ≡ Fits k
+  pub creatable : (t : List ℕ) (at start k : ℕ) → verdict N book start (groups t at) ≡ Fits k
       → (ks : List Group) (g : Group) (gs : List Group) → kept (groups t at) ≡ ks ++ (g ∷ gs) → Creatable N book ks g
   unfolding all-listed
-  creatable t at k f ks g gs e =
-      let (all, few) = fitting-parts N book (kept (groups t at)) k f in
-      let (before, rest) = both (all-listed N book ks) (all-listed N book (g ∷ gs)) (sym (all-listed-append N book ks (g ∷ gs)) ∙ ap (all-listed N book) (sym e) ∙ all) in
+  creatable t at start k f ks g gs e =
+      let F = verdict-fits N book start (groups t at) k f in
+      let (before, rest) = both (all-listed N book ks) (all-listed N book (g ∷ gs)) (sym (all-listed-append N book ks (g ∷ gs)) ∙ ap (all-listed N book) (sym e) ∙ F .known) in
       let here = both (listed N book g) (all-listed N book gs) rest .0 in
       let named = apart-at ks g gs (ap apart (sym e) ∙ kept-apart (groups t at)) .0 in
       let on = both (among (group-atoms-of N book) (g .name)) (covered (g .nodes) (node-atoms N book)) here .1 in

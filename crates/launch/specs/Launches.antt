@@ -1,6 +1,6 @@
 -- What a launch is, test by test, and after the plan of its groups. Assumes nothing.
 use mathlib.Core.Path.{_≡_, refl, sym, ap, _∙_}
-use mathlib.Core.Bool.{Bool, true, false, not, _&&_, _||_, cond, and-eq-true-iff, false≢true}
+use mathlib.Core.Bool.{Bool, true, false, not, _&&_, _||_, cond, and-eq-true-iff}
 use mathlib.Core.List.{List, [], _∷_}
 use Prim.Native.Nat.{ℕ, _+_, _≤_, _<_}
 use native.Mathlib.Omega.{arith}
@@ -23,6 +23,7 @@ use Rattle.creating.specs.Creating.{created, narrow}
 use Rattle.entries.specs.Pids.{half-word}
 use Rattle.tokens.specs.Reserved.{among}
 use Rattle.grammar.specs.File.{Group, Outcome, taken, refused, outcome}
+use Rattle.walk.specs.Groups.{groups}
 use Rattle.book.specs.Book.{group-atoms, lines, fit, place-of, node-atoms, group-atoms-of}
 use Rattle.book.specs.PlaceLaws.{place-among}
 use Rattle.book.specs.Hinting.{fit-few}
@@ -84,7 +85,6 @@ module _ (N hidden : ℕ) (t : List ℕ) (k : Open N hidden t) where
   -- the opened table is sound
   pub opened-sound : sound names-per-group (opening N hidden t .table) ≡ true
   opened-sound = sound-iff names-per-group (opening N hidden t .table) .1 (opening-gives-sound N hidden t opened-ok)
-
 
 -- the tests that come after those of the run, the roster and the nodes
 abbrev later-tests : ℕ → ℕ → List ℕ → Outcome → List Test
@@ -184,11 +184,7 @@ pub makes-so : (N hidden : ℕ) (book : List ℕ) (gs : List Group) (t words : L
     → (a ≡ answer-of Ok Done) × (p ≡ 0) × (u ≡ created words (opening N hidden t .table)) → words ≡ plan-words N book gs → Tells l a p u
 makes-so N hidden book gs t words e w q = rw e (w .0, (w .1, w .2 ∙ rw q (words-make N book gs _)))
 
--- what reading said: a file, or a refusal
-pub as-read : {o a b : Outcome} (w : Bool) → o ≡ cond w a b → w ≡ true → o ≡ a
-as-read true e h = e
-as-read false e h = absurd (false≢true h)
-
-pub as-cut : {o a b : Outcome} (w : Bool) → o ≡ cond w a b → w ≡ false → o ≡ b
-as-cut false e h = e
-as-cut true e h = absurd (false≢true (sym h))
+-- what reading said of a file: its groups stand at a place, or it is refused there
+pub record Was-read (file : List ℕ) (whole : Bool) (place : ℕ) : Type 0 where
+  pub is-file : whole ≡ true → outcome file ≡ taken (groups file place)
+  pub is-none : whole ≡ false → outcome file ≡ refused place

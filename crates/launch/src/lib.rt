@@ -11,14 +11,12 @@ use layout::NODE_LIMIT;
 use layout::TABLE_WORDS;
 use plan::Plan;
 ghost use mathlib.Core.Path.{_≡_};
-ghost use mathlib.Core.Bool.{true, cond};
+ghost use mathlib.Core.Bool.{true};
 ghost use Rattle.answers.specs.Answers.{answer-of};
 ghost use Rattle.answers.specs.declared.Value.the-variants.{Ok, Error};
 ghost use Rattle.answers.specs.declared.Reason.the-variants.{Done};
-ghost use Rattle.grammar.specs.File.{outcome, taken, refused};
-ghost use Rattle.walk.specs.Groups.{groups};
 ghost use Rattle.launch.specs.Launch.{launch};
-ghost use Rattle.launch.specs.Launches.{Open, In-order};
+ghost use Rattle.launch.specs.Launches.{Open, In-order, Was-read};
 ghost use Rattle.creating.specs.Creating.{narrow, created};
 ghost use Rattle.semantics.specs.Call.{opening};
 
@@ -56,9 +54,18 @@ fn make(t: &mut [u64], n: u32, hidden: u64, words: &[u64]) -> Launched
 }
 
 // The launch of a file that was read, on a run and a roster that are in order: it is a file whose groups stand at the place, or it is refused there.
-fn judged(t: &mut [u64], n: u32, hidden: u64, start: u32, book: &[u8], file: &[u8], whole: bool, place: usize) -> Launched
+fn judged(
+    t: &mut [u64],
+    n: u32,
+    hidden: u64,
+    start: u32,
+    book: &[u8],
+    file: &[u8],
+    whole: bool,
+    place: usize,
+) -> Launched
     requires { ⌜ In-order n hidden start (now t) ⌝ }
-    requires { ⌜ outcome (now file) ≡ cond whole (taken (groups (now file) place)) (refused place) ⌝ }
+    requires { ⌜ Was-read (now file) whole place ⌝ }
     ensures { λ r. ⌜ r .answer ≡ launch n hidden start (now (book .entry)) (now (file .entry)) (now (t .entry)) .answer ⌝ }
     ensures { λ r. ⌜ r .place ≡ launch n hidden start (now (book .entry)) (now (file .entry)) (now (t .entry)) .place ⌝ }
     ensures { λ _. ⌜ now (t .exit) ≡ launch n hidden start (now (book .entry)) (now (file .entry)) (now (t .entry)) .table ⌝ }

@@ -6,7 +6,7 @@ use mathlib.Core.Bool.{true}
 use native.Mathlib.Omega.{arith}
 use lib.Seq.{length-take-le}
 use borrow.Author.Tests.{not-true, not-false}
-use Rattle.launch.specs.Launches.{by-plan, no-book, no-file-at, planned, fits, words-narrow, refuses-so, makes-so, as-read, as-cut}
+use Rattle.launch.specs.Launches.{by-plan, no-book, no-file-at, planned, fits, words-narrow, refuses-so, makes-so}
 use Rattle.launch.proofs.judged.Statement.{statement}
 use Rattle.launch.proofs.judged.Tie as tie
 
@@ -28,7 +28,7 @@ refused-at-requires-2 c κs = search needs
 
 returns-2 : tie.Need-returns-2
 returns-2 c =
-    refuses-so (no-file-at _ _ _ _ _ _ (c .before .before .before .before .before .before .before .before .before .pre .0) (sym (c .before .before .before .before .fit .ensures .0) ∙ not-false _ (c .before .before .if1 .left)) _ (as-cut _ (c .before .before .before .before .before .before .before .before .before .pre .1) (not-true _ (c .before .if2 .taken)))) (c .refused-at2 .ensures)
+    refuses-so (no-file-at _ _ _ _ _ _ (c .before .before .before .before .before .before .before .before .before .pre .0) (sym (c .before .before .before .before .fit .ensures .0) ∙ not-false _ (c .before .before .if1 .left)) _ (c .before .before .before .before .before .before .before .before .before .pre .1 .is-none (not-true _ (c .before .if2 .taken)))) (c .refused-at2 .ensures)
 
 slice-aggregate-plan-of : tie.Need-slice-aggregate-plan-of
 slice-aggregate-plan-of c = search needs
@@ -80,20 +80,20 @@ make-requires c κs =
 returns-3 : tie.Need-returns-3
 returns-3 c =
     refuses-so
-    (planned _ _ _ _ _ _ (c .before .before .before .before .before .before .before .before .before .before .before .before .before .before .before .pre .0) (sym (c .before .before .before .before .before .before .before .before .before .before .fit .ensures .0) ∙ not-false _ (c .before .before .before .before .before .before .before .before .if1 .left)) _ (as-read _ (c .before .before .before .before .before .before .before .before .before .before .before .before .before .before .before .pre .1) (not-false _ (c .before .before .before .before .before .before .before .if2 .left)))
-        ∙ ap (by-plan _ _ _ _ _) (sym (c .before .before .before .before .plan-of .ensures .0) ∙ c .before .enum-told .given .1)) (c .refused-at3 .ensures)
+    (planned _ _ _ _ _ _ (c .before .before .before .before .before .before .before .before .before .before .before .before .before .before .before .pre .0) (sym (c .before .before .before .before .before .before .before .before .before .before .fit .ensures .0) ∙ not-false _ (c .before .before .before .before .before .before .before .before .if1 .left)) _ (c .before .before .before .before .before .before .before .before .before .before .before .before .before .before .before .pre .1 .is-file (not-false _ (c .before .before .before .before .before .before .before .if2 .left)))
+    ∙ ap (by-plan _ _ _ _ _) (sym (c .before .before .before .before .plan-of .ensures .0) ∙ c .before .enum-told .given .1)) (c .refused-at3 .ensures)
 
 returns-4 : tie.Need-returns-4
 returns-4 c =
     refuses-so
-    (planned _ _ _ _ _ _ (c .before .before .before .before .before .before .before .before .before .before .before .before .before .before .before .pre .0) (sym (c .before .before .before .before .before .before .before .before .before .before .fit .ensures .0) ∙ not-false _ (c .before .before .before .before .before .before .before .before .if1 .left)) _ (as-read _ (c .before .before .before .before .before .before .before .before .before .before .before .before .before .before .before .pre .1) (not-false _ (c .before .before .before .before .before .before .before .if2 .left)))
-        ∙ ap (by-plan _ _ _ _ _) (sym (c .before .before .before .before .plan-of .ensures .0) ∙ c .before .enum-told2 .given .1)) (c .refused-at4 .ensures)
+    (planned _ _ _ _ _ _ (c .before .before .before .before .before .before .before .before .before .before .before .before .before .before .before .pre .0) (sym (c .before .before .before .before .before .before .before .before .before .before .fit .ensures .0) ∙ not-false _ (c .before .before .before .before .before .before .before .before .if1 .left)) _ (c .before .before .before .before .before .before .before .before .before .before .before .before .before .before .before .pre .1 .is-file (not-false _ (c .before .before .before .before .before .before .before .if2 .left)))
+    ∙ ap (by-plan _ _ _ _ _) (sym (c .before .before .before .before .plan-of .ensures .0) ∙ c .before .enum-told2 .given .1)) (c .refused-at4 .ensures)
 
 returns-5 : tie.Need-returns-5
 returns-5 c =
     refuses-so
-    (planned _ _ _ _ _ _ (c .before .before .before .before .before .before .before .before .before .before .before .before .before .before .before .pre .0) (sym (c .before .before .before .before .before .before .before .before .before .before .fit .ensures .0) ∙ not-false _ (c .before .before .before .before .before .before .before .before .if1 .left)) _ (as-read _ (c .before .before .before .before .before .before .before .before .before .before .before .before .before .before .before .pre .1) (not-false _ (c .before .before .before .before .before .before .before .if2 .left)))
-        ∙ ap (by-plan _ _ _ _ _) (sym (c .before .before .before .before .plan-of .ensures .0) ∙ c .before .enum-told3 .given .1)) (c .refused-at5 .ensures)
+    (planned _ _ _ _ _ _ (c .before .before .before .before .before .before .before .before .before .before .before .before .before .before .before .pre .0) (sym (c .before .before .before .before .before .before .before .before .before .before .fit .ensures .0) ∙ not-false _ (c .before .before .before .before .before .before .before .before .if1 .left)) _ (c .before .before .before .before .before .before .before .before .before .before .before .before .before .before .before .pre .1 .is-file (not-false _ (c .before .before .before .before .before .before .before .if2 .left)))
+    ∙ ap (by-plan _ _ _ _ _) (sym (c .before .before .before .before .plan-of .ensures .0) ∙ c .before .enum-told3 .given .1)) (c .refused-at5 .ensures)
 
 same-length : tie.Need-same-length
 same-length c = search needs
@@ -101,8 +101,8 @@ same-length c = search needs
 returns-6 : tie.Need-returns-6
 returns-6 c =
     makes-so _ _ _ _ _ _
-    (planned _ _ _ _ _ _ (c .before .before .before .before .before .before .before .before .before .before .before .before .before .before .before .before .before .before .before .before .pre .0) (sym (c .before .before .before .before .before .before .before .before .before .before .before .before .before .before .before .fit .ensures .0) ∙ not-false _ (c .before .before .before .before .before .before .before .before .before .before .before .before .before .if1 .left)) _ (as-read _ (c .before .before .before .before .before .before .before .before .before .before .before .before .before .before .before .before .before .before .before .before .pre .1) (not-false _ (c .before .before .before .before .before .before .before .before .before .before .before .before .if2 .left)))
-        ∙ ap (by-plan _ _ _ _ _) (sym (c .before .before .before .before .before .before .before .before .before .plan-of .ensures .0) ∙ c .before .before .before .before .before .before .count .given .1))
+    (planned _ _ _ _ _ _ (c .before .before .before .before .before .before .before .before .before .before .before .before .before .before .before .before .before .before .before .before .pre .0) (sym (c .before .before .before .before .before .before .before .before .before .before .before .before .before .before .before .fit .ensures .0) ∙ not-false _ (c .before .before .before .before .before .before .before .before .before .before .before .before .before .if1 .left)) _ (c .before .before .before .before .before .before .before .before .before .before .before .before .before .before .before .before .before .before .before .before .pre .1 .is-file (not-false _ (c .before .before .before .before .before .before .before .before .before .before .before .before .if2 .left)))
+    ∙ ap (by-plan _ _ _ _ _) (sym (c .before .before .before .before .before .before .before .before .before .plan-of .ensures .0) ∙ c .before .before .before .before .before .before .count .given .1))
     (c .before .before .make .ensures) (c .before .before .before .before .before .before .before .before .before .plan-of .ensures .1 _ (c .before .before .before .before .before .before .count .given .1))
 
 pub judged-spec : {M : Type 1} → statement M

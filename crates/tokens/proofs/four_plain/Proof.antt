@@ -1,8 +1,9 @@
--- `tokens::four` meets its contract: the four tests are those of the run. Assumes nothing.
+-- `tokens::four_plain` meets its contract: the four tests are those of the run. Assumes nothing.
 use borrow.Author.Needs.{needs}
 use Rattle.tokens.specs.Within.{four}
-use Rattle.tokens.proofs.four.Statement.{statement}
-use Rattle.tokens.proofs.four.Tie as tie
+use Rattle.tokens.specs.declared.Class.the-variants.{Name}
+use Rattle.tokens.proofs.four_plain.Statement.{statement}
+use Rattle.tokens.proofs.four_plain.Tie as tie
 
 shared-slice-read-has : tie.Need-shared-slice-read-has
 shared-slice-read-has c = search needs
@@ -40,11 +41,11 @@ has-requires-4 c κs = search needs
 returns : tie.Need-returns
 returns c =
     let k = c .before .before .before .before in
-    let s = k .before .before .before .before .before in
-    rw (k .before .before .has .ensures, k .has2 .ensures, c .before .before .has3 .ensures, c .has4 .ensures, four (s .args .class) (s .args .text .now) (s .args .at) (s .pre))
+    let a = k .before .before .before .before .before in
+    rw (k .before .before .has .ensures, k .has2 .ensures, c .before .before .has3 .ensures, c .has4 .ensures, four Name (a .args .text .now) (a .args .at) (a .pre))
 
-pub four-spec : {M : Type 1} → statement M
-four-spec =
+pub four-plain-spec : {M : Type 1} → statement M
+four-plain-spec =
     tie.close
     (tie.spec
     shared-slice-read-has

@@ -19,20 +19,38 @@ use Rattle.answers.specs.declared.Reason.the-variants.{Done, TableLength, Roste
 use Rattle.semantics.specs.Sizes.{group-limit, names-per-group, table-words}
 use Rattle.semantics.specs.Truth.{neither}
 use Rattle.semantics.specs.FirstReason.{first}
+use Rattle.semantics.specs.Soundness.{Sound}
 use Rattle.semantics.specs.Call.{opening}
+use Rattle.semantics.specs.Calls.{calls-keep-sound, opening-gives-sound}
+use Rattle.entries.specs.Pids.{half-word}
+use Rattle.creating.specs.Creating.{narrow}
 use Rattle.grammar.specs.File.{Group, Outcome, taken, refused, outcome}
 use Rattle.book.specs.Book.{lines, fit}
 use Rattle.duplicates.specs.Duplicates.{kept, clash}
-use Rattle.plan.specs.Plan.{all-listed}
+use Rattle.duplicates.specs.Names.{both}
+use Rattle.plan.specs.Plan.{number-of, listed, all-listed, plan-words}
 use Rattle.published.specs.Refusals.{Lowest}
 use Rattle.published.specs.LowestReason.{first-lowest}
 use Rattle.launch.specs.Launch.{Launch, found, no-file, launch-tests, place-of-refusal, made, launch}
-use Rattle.launch.specs.Launches.{In-order}
+use Rattle.launch.specs.Launches.{In-order, opened-ok, words-narrow}
+use Rattle.launch.specs.Makeable.{set-below}
 
 -- the reason that is given is the one of lowest rank that holds
 pub launch-lowest : (run N hidden start : ℕ) (book : List ℕ) (o : Outcome)
     → Lowest (launch-tests run N hidden start book o) (first (launch-tests run N hidden start book o))
 launch-lowest run N hidden start book o = first-lowest 0 (launch-tests run N hidden start book o) refl
+
+-- groups of the book are made on a sound table, which stays so
+made-sound : (N : ℕ) (book : List ℕ) → fit N book ≡ true → N ≤ node-limit → (gs : List Group) (t : List ℕ) → all-listed N book gs ≡ true
+    → narrow (plan-words N book gs) ≡ true → Sound names-per-group t → Sound names-per-group (made N book gs t)
+unfolding made plan-words narrow all-listed
+made-sound N book b few [] t a n s = s
+made-sound N book b few (g ∷ gs) t a n s =
+    let p = both (listed N book g) (all-listed N book gs) a in
+    let q = both (ltb (number-of N book g) half-word) (narrow (plan-words N book gs)) n in
+    let m : 2 ^ N ≤ 2 ^ node-limit = pow-mono few in
+    made-sound N book b few gs _ (p .1) (q .1)
+    (calls-keep-sound 0 _ _ t (ltb-true (number-of N book g) half-word (q .0), omega (arith, set-below N book b few g (p .0))) s)
 
 module _ (N hidden start : ℕ) (book file t : List ℕ) where
   -- what is given for a reason, which refuses or not
@@ -50,3 +68,73 @@ module _ (N hidden start : ℕ) (book file t : List ℕ) where
       go : (r : Reason) (x : Bool) → refuses (given r x .answer .reason) ≡ true → given r x .table ≡ t
       go r true h = refl
       go r false h = absurd (false≢true h)
+
+  -- no refusal is Ok
+  never : (r : Reason) → answer-of Error r ≡ answer-of Ok Done → ⊥
+  never r e = let z : kind Error ≡ kind Ok = ap (λ (a : Answer). kind (a .value)) e in omega arith
+
+  -- a launch that goes through: no test holds
+  record Through : Type 0 where
+    order : In-order N hidden start t
+    booked : fit N book ≡ true
+    whole : no-file (outcome file) ≡ false
+    agree : clash (found (outcome file)) (getD (lines book) start []) ≡ false
+    known : all-listed N book (kept (found (outcome file))) ≡ true
+    few : length (kept (found (outcome file))) ≤ group-limit
+
+  module _ (ok : launch N hidden start book file t .answer ≡ answer-of Ok Done) where
+    through : Through
+    unfolding launch
+    through = go _ refl _ refl _ refl _ refl _ refl _ refl _ refl ok
+      where
+        go : (a : Bool) → not (eqb (length t) (table-words names-per-group)) ≡ a → (b : Bool) → (eqb N 0 || ltb node-limit N) ≡ b
+            → (c : Bool) → (beyond hidden N || not (ltb start N)) ≡ c → (d : Bool) → (not (fit N book) || no-file (outcome file)) ≡ d
+            → (e : Bool) → clash (found (outcome file)) (getD (lines book) start []) ≡ e → (f : Bool) → not (all-listed N book (kept (found (outcome file)))) ≡ f
+            → (g : Bool) → ltb group-limit (length (kept (found (outcome file)))) ≡ g
+            → let r : Reason = cond a TableLength (cond b RosterSize (cond c NodeUnknown (cond d NoLaunchFile (cond e GroupsDiffer (cond f AtomUnknown (cond g GroupsFull Done)))))) in
+            given r (refuses r) .answer ≡ answer-of Ok Done → Through
+        go true p b q c s d u e v f w g x h = absurd (never TableLength h)
+        go false p true q c s d u e v f w g x h = absurd (never RosterSize h)
+        go false p false q true s d u e v f w g x h = absurd (never NodeUnknown h)
+        go false p false q false s true u e v f w g x h = absurd (never NoLaunchFile h)
+        go false p false q false s false u true v f w g x h = absurd (never GroupsDiffer h)
+        go false p false q false s false u false v true w g x h = absurd (never AtomUnknown h)
+        go false p false q false s false u false v false w true x h = absurd (never GroupsFull h)
+        go false p false q false s false u false v false w false x h =
+            let n = neither (eqb N 0) (ltb node-limit N) q in
+            let m = neither (beyond hidden N) (not (ltb start N)) s in
+            let k = neither (not (fit N book)) (no-file (outcome file)) u in
+            let z = eqb-false N 0 (n .0) in
+            record {
+              order = record {
+                opens = record {
+                  long = eqb-true _ _ (not-false _ p);
+                  some = omega arith;
+                  few = ltb-false node-limit N (n .1);
+                  on = m .0;
+                };
+                known = ltb-true start N (not-false _ (m .1));
+              };
+              booked = not-false _ (k .0);
+              whole = k .1;
+              agree = v;
+              known = not-false _ w;
+              few = ltb-false group-limit _ x;
+            }
+
+    -- the table that it leaves
+    made-table : launch N hidden start book file t .table ≡ made N book (kept (found (outcome file))) (opening N hidden t .table)
+    unfolding launch
+    made-table = go (first (launch-tests (length t) N hidden start book (outcome file))) (refuses (first (launch-tests (length t) N hidden start book (outcome file)))) ok
+      where
+        go : (r : Reason) (x : Bool) → given r x .answer ≡ answer-of Ok Done → given r x .table ≡ made N book (kept (found (outcome file))) (opening N hidden t .table)
+        go r true h = absurd (never r h)
+        go r false h = refl
+
+    -- it leaves a sound table
+    pub launch-sound : Sound names-per-group (launch N hidden start book file t .table)
+    launch-sound =
+        let w = through in
+        rw made-table
+        (made-sound N book (w .booked) (w .order .opens .few) (kept (found (outcome file))) _ (w .known) (words-narrow N book (w .booked) _ (w .known))
+        (opening-gives-sound N hidden t (opened-ok N hidden t (w .order .opens))))

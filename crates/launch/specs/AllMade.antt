@@ -1,15 +1,14 @@
 -- What a launch leaves: refused, for the lowest reason that holds, the table as it was; otherwise a sound table in which every kept group was made. Assumes nothing.
-use mathlib.Core.Path.{_≡_, refl, sym, ap, _∙_}
+use mathlib.Core.Path.{_≡_, refl, sym, ap}
 use mathlib.Core.Bool.{Bool, true, false, not, _||_, cond, false≢true}
 use mathlib.Core.List.{List, [], _∷_}
-use Prim.Native.Nat.{ℕ, suc, _+_, _*_, _^_, _≤_, _<_}
+use Prim.Native.Nat.{ℕ, _*_, _^_, _≤_}
 use native.Mathlib.Omega.{arith}
-use lib.Dec.{eqb, leb, ltb}
-use lib.ListN.{length, getD, length-drop}
-use lib.Pow.{pow-pos, pow-lt, pow-mono}
-use borrow.Author.Tests.{eqb-true, eqb-false, ltb-true, ltb-false, lt-leb, not-true, not-false}
-use Rattle.nodes.specs.Sets.{node-limit, beyond, single, with-node, lowest}
-use Rattle.nodes.specs.SetLaws.{with-node-in, union-lt}
+use lib.Dec.{eqb, ltb}
+use lib.ListN.{length, getD}
+use lib.Pow.{pow-mono}
+use borrow.Author.Tests.{eqb-true, eqb-false, ltb-true, ltb-false, not-false}
+use Rattle.nodes.specs.Sets.{node-limit, beyond}
 use Rattle.answers.specs.Answers.{refuses, answer-of}
 use Rattle.answers.specs.Outputs.{kind}
 use Rattle.answers.specs.declared.Answer.{Answer}
@@ -23,17 +22,23 @@ use Rattle.semantics.specs.Soundness.{Sound}
 use Rattle.semantics.specs.Call.{opening}
 use Rattle.semantics.specs.Calls.{calls-keep-sound, opening-gives-sound}
 use Rattle.entries.specs.Pids.{half-word}
+use Rattle.semantics.specs.State as State
+use Rattle.semantics.specs.Table.{state-of}
 use Rattle.creating.specs.Creating.{narrow}
+use Rattle.creating.specs.Creations.{makeable, each-made, all-there}
+use Rattle.creating.specs.NoneRefused.{none-refused-opened, groups-there}
 use Rattle.grammar.specs.File.{Group, Outcome, taken, refused, outcome}
 use Rattle.book.specs.Book.{lines, fit}
 use Rattle.duplicates.specs.Duplicates.{kept, clash}
-use Rattle.duplicates.specs.Names.{both}
+use Rattle.duplicates.specs.Names.{both, kept-apart}
 use Rattle.plan.specs.Plan.{number-of, listed, all-listed, plan-words}
+use Rattle.plan.specs.Peopled.{kept-peopled}
 use Rattle.published.specs.Refusals.{Lowest}
 use Rattle.published.specs.LowestReason.{first-lowest}
 use Rattle.launch.specs.Launch.{Launch, found, no-file, launch-tests, place-of-refusal, made, launch}
-use Rattle.launch.specs.Launches.{In-order, opened-ok, words-narrow}
-use Rattle.launch.specs.Makeable.{set-below}
+use Rattle.launch.specs.Launches.{In-order, opened-ok, words-narrow, words-make}
+use Rattle.launch.specs.TakenGroups.{taken-peopled}
+use Rattle.launch.specs.Makeable.{two-each, set-below, words-makeable}
 
 -- the reason that is given is the one of lowest rank that holds
 pub launch-lowest : (run N hidden start : ℕ) (book : List ℕ) (o : Outcome)
@@ -52,7 +57,16 @@ made-sound N book b few (g ∷ gs) t a n s =
     made-sound N book b few gs _ (p .1) (q .1)
     (calls-keep-sound 0 _ _ t (ltb-true (number-of N book g) half-word (q .0), omega (arith, set-below N book b few g (p .0))) s)
 
+-- what is a file is taken with its groups
+is-taken : (o : Outcome) → no-file o ≡ false → o ≡ taken (found o)
+is-taken (taken gs) h = refl
+is-taken (refused p) h = absurd (false≢true (sym h))
+
 module _ (N hidden start : ℕ) (book file t : List ℕ) where
+  -- the words of the groups that are kept
+  abbrev words : List ℕ
+  words = plan-words N book (kept (found (outcome file)))
+
   -- what is given for a reason, which refuses or not
   abbrev given : Reason → Bool → Launch
   given r x =
@@ -138,3 +152,31 @@ module _ (N hidden start : ℕ) (book file t : List ℕ) where
         rw made-table
         (made-sound N book (w .booked) (w .order .opens .few) (kept (found (outcome file))) _ (w .known) (words-narrow N book (w .booked) _ (w .known))
         (opening-gives-sound N hidden t (opened-ok N hidden t (w .order .opens))))
+
+    -- its words can be made
+    can-be-made : makeable N words ≡ true
+    can-be-made =
+        let w = through in
+        let gs : List Group = found (outcome file) in
+        words-makeable N book (w .booked) (w .order .opens .few) (kept gs) (w .known)
+        (kept-peopled gs (taken-peopled file gs (is-taken (outcome file) (w .whole)))) (kept-apart gs)
+
+    -- in the room that there is
+    enough : length words ≤ 2 * group-limit
+    enough = omega (arith, through .few, two-each N book (kept (found (outcome file))))
+
+    -- the table was opened
+    was-opened : opening N hidden t .answer .reason ≡ Done
+    was-opened = ap (λ (a : Answer). a .reason) (opened-ok N hidden t (through .order .opens))
+
+    -- none of its creations was refused: each answers its number and its set
+    pub launch-all-made : each-made words (opening N hidden t .table)
+    launch-all-made = none-refused-opened N hidden words t was-opened can-be-made enough
+
+    -- its table has an s_group for each group that is kept, of its number and its set and with no names, and no other
+    pub launch-groups-there : let gs : List State.Group = state-of names-per-group (launch N hidden start book file t .table) .groups in
+        all-there words gs × (length gs ≡ length (kept (found (outcome file))))
+    launch-groups-there =
+        let w = groups-there N hidden words t was-opened can-be-made enough in
+        rw (made-table, ← (words-make N book (kept (found (outcome file))) (opening N hidden t .table)))
+        (w .0, omega (arith, w .1, two-each N book (kept (found (outcome file)))))

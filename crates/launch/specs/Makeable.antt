@@ -1,26 +1,25 @@
 -- Groups that fit give words that can be made: their numbers name s_groups and differ, and their sets are on the roster and not empty. Assumes nothing.
 use mathlib.Core.Path.{_≡_, refl, sym, ap, _∙_}
-use mathlib.Core.Bool.{Bool, true, false, not, _&&_, _||_, cond, true≢false}
+use mathlib.Core.Bool.{Bool, true, false, not, _||_, cond, true≢false}
 use mathlib.Core.List.{List, [], _∷_}
-use Prim.Native.Nat.{ℕ, suc, _+_, _*_, _^_, _≤_, _<_}
+use Prim.Native.Nat.{ℕ, suc, _*_, _^_, _≤_, _<_}
 use native.Mathlib.Nat.{le-refl}
 use native.Mathlib.Omega.{arith}
-use lib.Dec.{eqb, leb, ltb}
 use lib.ListN.{length, getD, length-drop}
 use lib.Pow.{pow-pos, pow-lt}
 use borrow.Author.Tests.{ltb-true, lt-leb, ne-eqb, not-true}
-use Rattle.nodes.specs.Sets.{node-limit, beyond, empty, single, union, with-node}
+use Rattle.nodes.specs.Sets.{node-limit, single, with-node}
 use Rattle.nodes.specs.SetLaws.{with-node-in, union-lt, subset-le, subset-union, subset-union-r}
 use Rattle.semantics.specs.Sizes.{group-names}
 use Rattle.semantics.specs.Ranges.{bad-group}
 use Rattle.tokens.specs.Reserved.{same, among}
 use Rattle.tokens.specs.Words.{same-eq, same-refl}
 use Rattle.grammar.specs.File.{Group}
-use Rattle.book.specs.Book.{group-atoms, lines, fit, place-of, node-atoms, group-atoms-of}
+use Rattle.book.specs.Book.{lines, fit, place-of, node-atoms, group-atoms-of}
 use Rattle.book.specs.PlaceLaws.{place-among}
 use Rattle.book.specs.Hinting.{fit-few}
 use Rattle.duplicates.specs.Duplicates.{covered, named}
-use Rattle.duplicates.specs.Names.{both, neither, apart, apart-at}
+use Rattle.duplicates.specs.Names.{both, neither, apart}
 use Rattle.plan.specs.Plan.{number-of, set-with, set-of, listed, all-listed, plan-words}
 use Rattle.plan.specs.Looked.{fit-nodes}
 use Rattle.plan.specs.Peopled.{some-node, peopled}
@@ -58,6 +57,12 @@ module _ (N : ℕ) (small : N ≤ node-limit) (atoms : List (List ℕ)) (size : 
       omega (arith, pow-pos (place-of a atoms), m .1, grows ws (with-node 0 (place-of a atoms)) (p .1) (m .2) .0)
 
 -- ---- numbers
+
+-- two words a group
+pub two-each : (N : ℕ) (book : List ℕ) (gs : List Group) → length (plan-words N book gs) ≡ 2 * length gs
+unfolding plan-words
+two-each N book [] = refl
+two-each N book (g ∷ gs) = omega (arith, two-each N book gs)
 
 -- an atom of the lines stands at its place
 at-place : (a : List ℕ) (ls : List (List ℕ)) → among ls a ≡ true → getD ls (place-of a ls) [] ≡ a

@@ -8,7 +8,7 @@ use lib.Dec.{eqb, ltb}
 use lib.ListN.{length}
 use Rattle.tokens.specs.Bytes.{quote, white, digit, small, name-byte}
 use Rattle.tokens.specs.Reserved.{same, is-reserved}
-use Rattle.grammar.specs.File.{depth-limit, Group, Level, file, kernel, Here, Sign, comma, open-list, close-list, open-tuple, close-tuple, ascii, Bracket, list, tuple, closing, own-key, Use, key, name, node, Phase, sign, letters, atom, plain, quoted, first-pair, next-pair, first-group, next-group, kind, next-node, value, first, after, word, other, digits, full-stop, Move, goes, stops, dead, spaced, reads, ended-pairs, ends-pairs, with-group, Lead, to-sign, to-node, nowhere, enters, keyed, named, node-next, behind-quote, behind-word, opens, begins, closes, separates, follows, step, Outcome, taken, refused, ends, onward, rest, outcome}
+use Rattle.grammar.specs.File.{depth-limit, Group, Level, file, kernel, Here, Sign, comma, open-list, close-list, open-tuple, close-tuple, ascii, Bracket, list, tuple, closing, own-key, Use, key, name, node, Phase, sign, letters, atom, plain, quoted, first-pair, next-pair, first-group, next-group, kind, next-node, value, first, after, word, other, digits, full-stop, Move, goes, stops, dead, spaced, reads, ended-pairs, ends-pairs, Lead, to-sign, to-node, nowhere, enters, keyed, named, node-next, behind-quote, behind-word, opens, begins, closes, separates, follows, step, taken, refused, ends, onward, rest, outcome}
 use Rattle.duplicates.specs.Names.{both}
 use Rattle.plan.specs.Peopled.{some-node, peopled}
 

@@ -87,16 +87,16 @@ module _ (N hidden start : ℕ) (book file t : List ℕ) where
   never : (r : Reason) → answer-of Error r ≡ answer-of Ok Done → ⊥
   never r e = let z : kind Error ≡ kind Ok = ap (λ (a : Answer). kind (a .value)) e in omega arith
 
-  -- a launch that goes through: no test holds
+  -- what a launch that goes through goes by: no test holds
   record Through : Type 0 where
     order : In-order N hidden start t
     booked : fit N book ≡ true
     whole : no-file (outcome file) ≡ false
-    agree : clash (found (outcome file)) (getD (lines book) start []) ≡ false
     known : all-listed N book (kept (found (outcome file))) ≡ true
     few : length (kept (found (outcome file))) ≤ group-limit
 
   module _ (ok : launch N hidden start book file t .answer ≡ answer-of Ok Done) where
+    -- by the tests, one after another
     through : Through
     unfolding launch
     through = go _ refl _ refl _ refl _ refl _ refl _ refl _ refl ok
@@ -131,7 +131,6 @@ module _ (N hidden start : ℕ) (book file t : List ℕ) where
               };
               booked = not-false _ (k .0);
               whole = k .1;
-              agree = v;
               known = not-false _ w;
               few = ltb-false group-limit _ x;
             }

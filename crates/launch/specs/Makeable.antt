@@ -28,6 +28,7 @@ use Rattle.creating.specs.Creations.{differs, makeable}
 -- ---- sets
 
 module _ (N : ℕ) (small : N ≤ node-limit) (atoms : List (List ℕ)) (size : length atoms ≡ N) where
+  -- an atom of the nodes has its place on the roster
   on-roster : (a : List ℕ) → among atoms a ≡ true → place-of a atoms < N
   on-roster a h = omega (arith, ltb-true (place-of a atoms) (length atoms) (place-among a atoms ∙ h))
 
@@ -111,6 +112,7 @@ module _ (N : ℕ) (book : List ℕ) where
 
     -- ---- all words
 
+    -- of groups in the book that have nodes and of which no two have one name
     pub words-makeable : (gs : List Group) → all-listed N book gs ≡ true → peopled gs ≡ true → apart gs ≡ true → makeable N (plan-words N book gs) ≡ true
     unfolding makeable plan-words all-listed
     words-makeable [] a s d = refl

@@ -39,15 +39,18 @@ good (goes h due ph) = (peopled (h .groups) ≡ true) × (fine ph ≡ true)
 good (stops gs) = peopled gs ≡ true
 good dead = Unit {0}
 
+-- the same behind an atom
 abbrev good-lead : Lead → Type 0
 good-lead (to-sign h c ph) = (peopled (h .groups) ≡ true) × (fine ph ≡ true)
 good-lead (to-node h n ns) = (peopled (h .groups) ≡ true) × (some-node ns ≡ true)
 good-lead nowhere = Unit {0}
 
+-- of two moves
 either : (x : Bool) (m n : Move) → good m → good n → good (cond x m n)
 either true m n p q = p
 either false m n p q = q
 
+-- one node more, and one group more
 some-more : (ns : List (List ℕ)) (w : List ℕ) → some-node (ns ++ (w ∷ [])) ≡ true
 some-more [] w = refl
 some-more (n ∷ ns) w = refl
@@ -133,6 +136,7 @@ good-word (to-sign h c ph) b g = good-reads h (g .0) (sign c ph) b c ph dead (g 
 good-word (to-node h n ns) b g = good-node-next h (g .0) n ns b (g .1)
 good-word nowhere b g = tt
 
+-- every move is such
 good-step : (h : Here) (due : List Bracket) (ph : Phase) (b : ℕ) → peopled (h .groups) ≡ true → fine ph ≡ true → good (step h due ph b)
 unfolding step
 good-step h due (sign c ph) b p f = good-reads h p (sign c ph) b c ph dead f f tt
@@ -163,6 +167,7 @@ same-groups gs ks e = cc
 never-taken : (p : ℕ) (gs : List Group) → refused p ≡ taken gs → ⊥
 never-taken p gs e = let z : _≡_ {A = ℕ} 0 1 = cc in omega arith
 
+-- the groups that stood before the full stop are taken
 ends-with : (ks gs : List Group) (p : ℕ) (bs : List ℕ) → ends ks p bs ≡ taken gs → ks ≡ gs
 unfolding ends
 ends-with ks gs p [] e = same-groups ks gs e
@@ -172,6 +177,7 @@ ends-with ks gs p (b ∷ bs) e = go (white b) e (ends-with ks gs (suc p) bs)
     go true e f = f e
     go false e f = absurd (never-taken p gs e)
 
+-- by each byte
 rest-peopled : (gs : List Group) (h : Here) (due : List Bracket) (ph : Phase) (p : ℕ) (bs : List ℕ) → peopled (h .groups) ≡ true → fine ph ≡ true
     → rest h due ph p bs ≡ taken gs → peopled gs ≡ true
 unfolding rest
@@ -185,5 +191,6 @@ rest-peopled gs h due ph p (b ∷ bs) q f e = go (step h due ph b) (good-step h 
     go (stops ks) w e i = ap peopled (sym (ends-with ks gs (suc p) bs e)) ∙ w
     go dead w e i = absurd (never-taken p gs e)
 
+-- from the first byte on
 pub taken-peopled : (t : List ℕ) (gs : List Group) → outcome t ≡ taken gs → peopled gs ≡ true
 taken-peopled t gs e = rest-peopled gs _ _ _ 0 t refl refl e

@@ -1,12 +1,11 @@
 -- Equal numbers are made of equal bytes. Assumes nothing.
-use mathlib.Core.Path.{_≡_, refl, sym, ap, _∙_}
+use mathlib.Core.Path.{_≡_, sym, ap, _∙_}
 use mathlib.Core.Logic.{⊎-elim}
 use mathlib.Core.List.{List}
 use Prim.Native.Nat.{ℕ, _+_, _-_, _*_, _/_, _≤_, _<_}
 use native.Mathlib.Omega.{arith}
 use borrow.Author.Tests.{eq-eqb, ne-eqb, lt-ltb, le-ltb}
 use lib.ListN.{length, getD}
-use lib.Seq.{ext-getD}
 use Rattle.nodes.specs.Bools.{by-lt, by-eq}
 use Rattle.atoms.specs.Marks.{half-word, two, four, eight, few, last-word}
 

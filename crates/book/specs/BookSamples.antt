@@ -4,7 +4,7 @@ use mathlib.Core.Bool.{true, false}
 use mathlib.Core.List.{List, [], _∷_, _++_}
 use Prim.Native.Nat.{ℕ}
 use Rattle.text.specs.Text.{newline}
-use Rattle.tokens.specs.Reserved.{bytes, same, among}
+use Rattle.tokens.specs.Reserved.{bytes, among}
 use Rattle.book.specs.Book.{lines, ended, all-atoms, distinct, fit, node-atoms, group-atoms-of, place-of}
 
 -- a line of a book

@@ -1,18 +1,18 @@
 -- Laws of an index whose hints are written, and of the book that it is for. Assumes nothing.
-use mathlib.Core.Path.{_≡_, refl, sym, ap, _∙_}
+use mathlib.Core.Path.{_≡_, refl, sym, _∙_}
 use mathlib.Core.Logic.{⊎-elim}
 use mathlib.Core.Bool.{Bool, true, false, _&&_, false≢true}
 use mathlib.Core.List.{List}
-use Prim.Native.Nat.{ℕ, _+_, _-_, _≤_, _<_}
+use Prim.Native.Nat.{ℕ, _+_, _≤_, _<_}
 use native.Mathlib.Omega.{arith}
 use borrow.Author.Tests.{leb-true}
 use lib.Dec.{leb}
-use lib.ListN.{length, getD, set, drop, length-set, length-drop}
+use lib.ListN.{length, set, length-set, length-drop}
 use lib.Seq.{getD-set-same, getD-set-other}
 use Rattle.nodes.specs.Bools.{by-eq}
-use Rattle.book_index.specs.Layout.{index-size, hint-count, number-at, cleared}
+use Rattle.book_index.specs.Layout.{hint-count, number-at, cleared}
 use Rattle.book_index.specs.LayoutLaws.{number-set, hint-cleared, length-cleared, number-cleared}
-use Rattle.book.specs.Book.{group-atoms, lines, ended, all-atoms, distinct, fit, group-atoms-of}
+use Rattle.book.specs.Book.{group-atoms, lines, ended, all-atoms, distinct, fit}
 use Rattle.book.specs.Index.{indexed-lines, group-number, Noted, Indexed}
 use Rattle.book.specs.Reading.{holds-still}
 

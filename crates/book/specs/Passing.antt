@@ -9,7 +9,7 @@ use lib.Dec.{eqb}
 use lib.ListN.{length, getD, take, drop, length-append, length-drop, take-append-drop}
 use lib.Seq.{take-all, take-add, length-take-le, getD-take, getD-append-seam}
 use Rattle.text.specs.Text.{newline, find-in}
-use Rattle.book.specs.Book.{in-front, lines, ended}
+use Rattle.book.specs.Book.{lines, ended}
 use Rattle.book.specs.LineLaws.{lines-first, ended-append, lines-append}
 
 -- i lines are passed, up to a place behind a newline

@@ -9,7 +9,7 @@ ghost use lib.ListN.{length, getD};
 ghost use Rattle.tokens.specs.Reserved.{among};
 ghost use Rattle.book_index.specs.Layout.{index-size, hint-count, with-mark};
 ghost use Rattle.book.specs.Book.{longest-atom, lines, fit, node-atoms, group-atoms-of, place-of};
-ghost use Rattle.book.specs.Index.{indexed-lines, atom-mark, Marked, Holds, Noted, Indexed};
+ghost use Rattle.book.specs.Index.{indexed-lines, atom-mark, Marked, Noted, Indexed};
 use book_index::HINTS;
 use book_index::MARKS;
 
@@ -206,7 +206,8 @@ fn hinted(book: &[u8], n: u32, index: &[u8], atom: &[u8]) -> usize
     INDEXED_LINES
 }
 
-// The place of an atom among all lines of a book, or their number where it is none of them.
+// The place of an atom among all lines of a book, or their number where it is none of them. The rare search has parts that
+// are the whole runs: handed on as they came, both would lie in memory for its sake, and cost more than the rest.
 fn place(book: &[u8], n: u32, index: &[u8], atom: &[u8]) -> usize
     requires { ⌜ Indexed n (now book) (now index) ⌝ }
     ensures { λ r. ⌜ r ≡ place-of (now (atom .entry)) (lines (now (book .entry))) ⌝ }
@@ -215,7 +216,7 @@ fn place(book: &[u8], n: u32, index: &[u8], atom: &[u8]) -> usize
     if j < INDEXED_LINES {
         return j;
     }
-    seek(book, atom)
+    seek(&book[0..], &atom[0..])
 }
 
 // How many group atoms a book has.
@@ -233,10 +234,10 @@ pub fn node_of(book: &[u8], n: u32, index: &[u8], atom: &[u8]) -> u32
 {
     let nodes = n as usize;
     let at = place(book, n, index, atom);
-    if at < nodes {
-        return at as u32;
+    if nodes <= at {
+        return n;
     }
-    n
+    at as u32
 }
 
 // The place of an atom among the group atoms of a book, or their number where it is none of them.

@@ -3,7 +3,7 @@ use mathlib.Core.Path.{_≡_, refl, sym, ap, _∙_}
 use mathlib.Core.Logic.{⊎-elim}
 use mathlib.Core.Bool.{Bool, true, false, _||_, or-false}
 use mathlib.Core.List.{List, _++_}
-use Prim.Native.Nat.{ℕ, _+_, _-_, _*_, _/_, _%_, _^_, _≤_, _<_}
+use Prim.Native.Nat.{ℕ, _+_, _*_, _/_, _%_, _<_}
 use native.Mathlib.Omega.{arith}
 use borrow.Author.Tests.{eq-eqb, ne-eqb, eqb-true}
 use lib.Dec.{eqb}
@@ -12,7 +12,6 @@ use lib.Seq.{getD-set-same, getD-set-other, getD-append-add, getD-drop}
 use Rattle.nodes.specs.Bools.{by-eq}
 use Rattle.nodes.specs.Sets.{has, with-node}
 use Rattle.nodes.specs.SetLaws.{has-with-node, has-below, below-pow}
-use Rattle.atoms.specs.Marks.{two}
 use Rattle.book_index.specs.Layout.{index-size, hint-count, mark-count, number-count, number-at, with-number, has-mark, with-mark, cleared}
 
 -- ---- a number

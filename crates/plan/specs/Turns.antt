@@ -18,7 +18,7 @@ use Rattle.plan.specs.declared.Plan.the-variants.{Unknown, TooMany, Fits
 
 -- ---- lists in two parts
 
-all-listed-append : (N : ℕ) (book : List ℕ) (ks gs : List Group) → all-listed N book (ks ++ gs) ≡ all-listed N book ks && all-listed N book gs
+pub all-listed-append : (N : ℕ) (book : List ℕ) (ks gs : List Group) → all-listed N book (ks ++ gs) ≡ all-listed N book ks && all-listed N book gs
 unfolding all-listed
 all-listed-append N book [] gs = refl
 all-listed-append N book (k ∷ ks) gs = rw (all-listed-append N book ks gs) (regroup (listed N book k) (all-listed N book ks) (all-listed N book gs))
@@ -27,7 +27,7 @@ all-listed-append N book (k ∷ ks) gs = rw (all-listed-append N book ks gs) (re
     regroup true b c = refl
     regroup false b c = refl
 
-plan-words-append : (N : ℕ) (book : List ℕ) (ks gs : List Group) → plan-words N book (ks ++ gs) ≡ plan-words N book ks ++ plan-words N book gs
+pub plan-words-append : (N : ℕ) (book : List ℕ) (ks gs : List Group) → plan-words N book (ks ++ gs) ≡ plan-words N book ks ++ plan-words N book gs
 unfolding plan-words
 plan-words-append N book [] gs = refl
 plan-words-append N book (k ∷ ks) gs = ap (λ l. number-of N book k ∷ set-of N book k ∷ l) (plan-words-append N book ks gs)
@@ -35,7 +35,7 @@ plan-words-append N book (k ∷ ks) gs = ap (λ l. number-of N book k ∷ set-of
 -- ---- the words of one more group
 
 module _ (words : List ℕ) (k number s : ℕ) where
-  pub put-length : length (put words k number s) ≡ length words
+  put-length : length (put words k number s) ≡ length words
   unfolding put
   put-length = go (ltb k group-limit)
     where

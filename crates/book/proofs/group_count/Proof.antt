@@ -1,4 +1,4 @@
--- `book::group_count` meets its contract. Assumes nothing.
+-- `book::group_count` meets its contract: the index has the number. Assumes nothing.
 use borrow.Author.Needs.{needs}
 use native.Mathlib.Omega.{arith}
 use lib.ListN.{length-drop}

@@ -1,6 +1,6 @@
--- `book::group_of` meets its contract. Assumes nothing.
+-- `book::group_of` meets its contract: the place among all lines decides. Assumes nothing.
 use borrow.Author.Needs.{needs}
-use mathlib.Core.Path.{_≡_, sym, ap, _∙_}
+use mathlib.Core.Path.{sym, ap, _∙_}
 use Prim.Native.Nat.{ℕ, _-_}
 use native.Mathlib.Omega.{arith}
 use Rattle.book.specs.Book.{lines}

@@ -1,6 +1,6 @@
 -- `book::hinted` meets its contract: a hint that is taken leads to a line that is the atom. Assumes nothing.
 use borrow.Author.Needs.{needs}
-use mathlib.Core.Path.{_≡_, sym, _∙_}
+use mathlib.Core.Path.{sym, _∙_}
 use Prim.Native.Nat.{_<_}
 use native.Mathlib.Omega.{arith}
 use Rattle.tokens.specs.Words.{same-eq}

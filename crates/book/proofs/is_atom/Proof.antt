@@ -1,5 +1,4 @@
 -- `book::is_atom` meets its contract: the tests on the way decide. Assumes nothing.
-use borrow.Author.Needs.{needs}
 use borrow.Author.Tests.{le-leb, lt-leb}
 use Rattle.book.proofs.is_atom.Statement.{statement}
 use Rattle.book.proofs.is_atom.Tie as tie

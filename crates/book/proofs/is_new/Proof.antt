@@ -1,6 +1,6 @@
 -- `book::is_new` meets its contract: an atom without its mark is new, and any other is looked for. Assumes nothing.
 use borrow.Author.Needs.{needs}
-use borrow.Author.Tests.{not-true, not-false, lt-ltb, le-ltb, lt-leb, le-leb}
+use borrow.Author.Tests.{not-true, lt-ltb, le-ltb, lt-leb, le-leb}
 use mathlib.Core.Path.{_≡_, refl, sym, ap, _∙_}
 use mathlib.Core.Logic.{⊎-elim}
 use mathlib.Core.Bool.{Bool, true, false, not, true≢false}

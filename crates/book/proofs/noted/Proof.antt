@@ -1,6 +1,5 @@
 -- `book::noted` meets its contract: the line stands between two numbers. Assumes nothing.
 use borrow.Author.Needs.{needs}
-use mathlib.Core.Path.{_∙_}
 use native.Mathlib.Omega.{arith}
 use Rattle.book.proofs.noted.Statement.{statement}
 use Rattle.book.proofs.noted.Tie as tie

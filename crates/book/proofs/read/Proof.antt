@@ -1,8 +1,8 @@
 -- `book::read` meets its contract: the lines passed are atoms, none of them twice, each with its mark, and their places are noted. Assumes nothing.
 use borrow.Author.Needs.{needs}
 use borrow.Author.Tests.{not-true, not-false}
-use mathlib.Core.Path.{_≡_, refl, sym, ap, _∙_}
-use mathlib.Core.Bool.{Bool, true, false, not, false≢true}
+use mathlib.Core.Path.{_≡_, sym, ap, _∙_}
+use mathlib.Core.Bool.{true, false, false≢true}
 use mathlib.Core.List.{List}
 use Prim.Native.Nat.{ℕ, _+_, _-_, _≤_, _<_}
 use native.Mathlib.Omega.{arith}
@@ -10,7 +10,6 @@ use lib.ListN.{length, take, drop, length-drop}
 use lib.Seq.{length-take-le}
 use Rattle.text.specs.Text.{newline, find-in}
 use Rattle.text.specs.FieldLaws.{find-within, part-rest}
-use Rattle.book_index.specs.LayoutLaws.{length-cleared}
 use Rattle.book.specs.Book.{fit}
 use Rattle.book.specs.Index.{Noted}
 use Rattle.book.specs.Reading.{Reading, start, count-within, size-more, short-more, no-newline, no-atom, stands-twice, goes-past, goes-on, too-few, too-many, is-book, is-noted}

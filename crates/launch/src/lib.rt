@@ -1,0 +1,119 @@
+// A table from a launch file.
+use answers::Answer;
+use answers::Reason;
+use answers::Value;
+use answers::done;
+use answers::refused;
+use book::INDEX_SIZE;
+use launch_file::Reading;
+use layout::GROUP_LIMIT;
+use layout::NODE_LIMIT;
+use layout::TABLE_WORDS;
+use plan::Plan;
+ghost use mathlib.Core.Path.{_≡_};
+ghost use mathlib.Core.Bool.{true};
+ghost use Rattle.answers.specs.Answers.{answer-of};
+ghost use Rattle.answers.specs.declared.Value.the-variants.{Ok, Error};
+ghost use Rattle.answers.specs.declared.Reason.the-variants.{Done};
+ghost use Rattle.launch.specs.Launch.{launch};
+ghost use Rattle.launch.specs.Launches.{Open, In-order, Was-read};
+ghost use Rattle.creating.specs.Creating.{narrow, created};
+ghost use Rattle.semantics.specs.Call.{opening};
+
+// What a launch answers: Ok or Error with its reason, and the place of the file at which it is refused.
+pub struct Launched {
+    pub answer: Answer,
+    pub place: usize,
+}
+
+// Room for the plan: a number and a set for each s_group.
+const PLAN_WORDS: usize = 2 * GROUP_LIMIT;
+
+// A refusal at a place.
+fn refused_at(reason: Reason, place: usize) -> Launched
+    ensures { λ r. ⌜ (r .answer ≡ answer-of Error reason) × (r .place ≡ place) ⌝ }
+{
+    Launched {
+        answer: refused(reason),
+        place: place,
+    }
+}
+
+// The table is opened, and the s_groups of the words are made.
+fn make(t: &mut [u64], n: u32, hidden: u64, words: &[u64]) -> Launched
+    requires { ⌜ Open n hidden (now t) ⌝ }
+    requires { ⌜ narrow (now words) ≡ true ⌝ }
+    ensures { λ r. ⌜ (r .answer ≡ answer-of Ok Done) × (r .place ≡ 0) × (now (t .exit) ≡ created (now (words .entry)) (opening n hidden (now (t .entry)) .table)) ⌝ }
+{
+    opening::open(t, n, hidden);
+    creating::create(t, words);
+    Launched {
+        answer: done(Value::Ok),
+        place: 0,
+    }
+}
+
+// The launch of a file that was read, on a run and a roster that are in order: it is a file whose groups stand at the place, or it is refused there.
+fn judged(
+    t: &mut [u64],
+    n: u32,
+    hidden: u64,
+    start: u32,
+    book: &[u8],
+    file: &[u8],
+    whole: bool,
+    place: usize,
+) -> Launched
+    requires { ⌜ In-order n hidden start (now t) ⌝ }
+    requires { ⌜ Was-read (now file) whole place ⌝ }
+    ensures { λ r. ⌜ r .answer ≡ launch n hidden start (now (book .entry)) (now (file .entry)) (now (t .entry)) .answer ⌝ }
+    ensures { λ r. ⌜ r .place ≡ launch n hidden start (now (book .entry)) (now (file .entry)) (now (t .entry)) .place ⌝ }
+    ensures { λ _. ⌜ now (t .exit) ≡ launch n hidden start (now (book .entry)) (now (file .entry)) (now (t .entry)) .table ⌝ }
+{
+    let mut index = [0u8; INDEX_SIZE];
+    if !book::fit(book, n, &mut index) {
+        return refused_at(Reason::NoLaunchFile, 0);
+    }
+    if !whole {
+        return refused_at(Reason::NoLaunchFile, place);
+    }
+    let mut words = [0u64; PLAN_WORDS];
+    match plan::plan_of(file, place, book, n, &index, start, &mut words) {
+        Plan::Clash => refused_at(Reason::GroupsDiffer, 0),
+        Plan::Unknown => refused_at(Reason::AtomUnknown, 0),
+        Plan::TooMany => refused_at(Reason::GroupsFull, 0),
+        Plan::Fits(count) => {
+            let used = 2 * count;
+            make(t, n, hidden, &words[..used])
+        }
+    }
+}
+
+// Opens the table for n nodes, some of them hidden, and makes the s_groups of the launch file: their atoms and those of their nodes have their numbers by the
+// book; start is the node that is started.
+pub fn launch(t: &mut [u64], n: u32, hidden: u64, start: u32, book: &[u8], file: &[u8]) -> Launched
+    ensures { λ r. ⌜ r .answer ≡ launch n hidden start (now (book .entry)) (now (file .entry)) (now (t .entry)) .answer ⌝ }
+    ensures { λ r. ⌜ r .place ≡ launch n hidden start (now (book .entry)) (now (file .entry)) (now (t .entry)) .place ⌝ }
+    ensures { λ _. ⌜ now (t .exit) ≡ launch n hidden start (now (book .entry)) (now (file .entry)) (now (t .entry)) .table ⌝ }
+{
+    if t.len() != TABLE_WORDS {
+        return refused_at(Reason::TableLength, 0);
+    }
+    if n < 1 {
+        return refused_at(Reason::RosterSize, 0);
+    }
+    if NODE_LIMIT < n as usize {
+        return refused_at(Reason::RosterSize, 0);
+    }
+    if nodes::beyond(hidden, n) {
+        return refused_at(Reason::NodeUnknown, 0);
+    }
+    if n <= start {
+        return refused_at(Reason::NodeUnknown, 0);
+    }
+    // Two calls, so that the compiler keeps the arrays of `judged` out of the frame on which reading stands.
+    match reader::read_file(file) {
+        Reading::Whole(g) => judged(t, n, hidden, start, book, file, true, g),
+        Reading::Refused(p) => judged(t, n, hidden, start, book, file, false, p),
+    }
+}

@@ -3,19 +3,22 @@
 # examples/launch, and on fixed texts, among them every difference that 02 wants. Prints its seed; launches that differ are kept in tests/erlang/kept/,
 # and what is kept there is run again first.
 #
-#   tests/erlang.sh [SEED [FILES [CHANGES [PROGRAM..]]]]     more files and changes of each for a longer run; another program that makes the launches
-#                                                            of a list and prints one line for each
+#   tests/erlang.sh [SEED [FILES [CHANGES [PROGRAM..]]]]     more files and changes of each for a longer run; another program than the library that
+#                                                            makes the launches of a list and prints one line for each
 set -uo pipefail
 cd "$(dirname "${BASH_SOURCE[0]}")/.."
 seed=${1:-20261115}
 files=${2:-1500}
 changes=${3:-3}
 program=("${@:4}")
-[ ${#program[@]} -gt 0 ] || program=(tests/model/target/release/model-launch)
+[ ${#program[@]} -gt 0 ] || program=(tests/compare/target/release/launch-files)
 command -v escript >/dev/null || { echo "escript is not there; Debian has it in erlang-base"; exit 1; }
 room=$(mktemp -d)
 trap 'rm -rf "$room"' EXIT
-cargo build --release --offline --manifest-path tests/model/Cargo.toml >"$room/said" 2>&1 || { cat "$room/said"; exit 1; }
+quietly() { "$@" >"$room/said" 2>&1 || { cat "$room/said"; exit 1; }; }
+quietly tools/native-lib sgroup_c
+quietly cargo build --release --offline --manifest-path tests/model/Cargo.toml
+quietly cargo build --release --offline --manifest-path tests/compare/Cargo.toml
 bad=0
 
 # The launches of a list, made by the program and by Erlang; those that differ are copied to a folder: compared LIST FOLDER

@@ -2,7 +2,9 @@
 
 type Run = *mut u64;
 
-/// One side: the test, opening and the fifteen commands.
+type Text = *const u8;
+
+/// One side: the test, opening, the fifteen commands and a launch.
 pub struct Api {
     pub is_sound: unsafe extern "C" fn(*const u64, usize) -> bool,
     pub open: unsafe extern "C" fn(Run, usize, u32, u64, Run, usize) -> u32,
@@ -21,13 +23,26 @@ pub struct Api {
     pub delete_s_group: unsafe extern "C" fn(Run, usize, u32, u32, Run, usize) -> u32,
     pub own_nodes: unsafe extern "C" fn(Run, usize, u32, Run, usize) -> u32,
     pub own_s_groups: unsafe extern "C" fn(Run, usize, u32, Run, usize, Run, usize) -> u32,
+    pub launch: unsafe extern "C" fn(
+        Run,
+        usize,
+        u32,
+        u64,
+        u32,
+        Text,
+        usize,
+        Text,
+        usize,
+        Run,
+        usize,
+    ) -> u32,
 }
 
 /// Declares the proved functions under a prefix, and their table.
 macro_rules! proved {
     ($table:ident: $is_sound:ident $open:ident $register_name:ident $re_register_name:ident $unregister_name:ident $registered_names:ident
      $whereis_name:ident $whereis_name_at:ident $send:ident $send_name:ident $send_at:ident $new_s_group:ident $add_nodes:ident $remove_nodes:ident
-     $delete_s_group:ident $own_nodes:ident $own_s_groups:ident) => {
+     $delete_s_group:ident $own_nodes:ident $own_s_groups:ident $launch:ident) => {
         extern "C" {
             fn $is_sound(t: *const u64, len: usize) -> bool;
             fn $open(t: Run, len: usize, n: u32, hidden: u64, a: Run, room: usize) -> u32;
@@ -148,6 +163,19 @@ macro_rules! proved {
                 a: Run,
                 room: usize,
             ) -> u32;
+            fn $launch(
+                t: Run,
+                len: usize,
+                n: u32,
+                hidden: u64,
+                start: u32,
+                book: Text,
+                book_len: usize,
+                file: Text,
+                file_len: usize,
+                a: Run,
+                room: usize,
+            ) -> u32;
         }
         pub const $table: Api = Api {
             is_sound: $is_sound,
@@ -167,15 +195,16 @@ macro_rules! proved {
             delete_s_group: $delete_s_group,
             own_nodes: $own_nodes,
             own_s_groups: $own_s_groups,
+            launch: $launch,
         };
     };
 }
 
 proved!(PROVED: sgroup_is_sound sgroup_open sgroup_register_name sgroup_re_register_name sgroup_unregister_name sgroup_registered_names
     sgroup_whereis_name sgroup_whereis_name_at sgroup_send sgroup_send_name sgroup_send_at sgroup_new_s_group sgroup_add_nodes sgroup_remove_nodes
-    sgroup_delete_s_group sgroup_own_nodes sgroup_own_s_groups);
+    sgroup_delete_s_group sgroup_own_nodes sgroup_own_s_groups sgroup_launch);
 proved!(PROVED_UNTESTED: notest_is_sound notest_open notest_register_name notest_re_register_name notest_unregister_name notest_registered_names
     notest_whereis_name notest_whereis_name_at notest_send notest_send_name notest_send_at notest_new_s_group notest_add_nodes notest_remove_nodes
-    notest_delete_s_group notest_own_nodes notest_own_s_groups);
+    notest_delete_s_group notest_own_nodes notest_own_s_groups notest_launch);
 pub const PLAIN: Api = crate::plain::commands::api::<true>();
 pub const PLAIN_UNTESTED: Api = crate::plain::commands::api::<false>();

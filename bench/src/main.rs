@@ -1,11 +1,13 @@
 //! Times the proved library against plain Rust written for speed, in one run, and prints the ratios: `bench SEED [PROGRAM WORD..]`. First both are held to
-//! the same answers and words on random calls and namespaces, and to the same lines on the scripts; `bench agree SEED [PROGRAM WORD..]` does that alone.
+//! the same answers and words on random calls, namespaces and launches, and to the same lines on the scripts; `bench agree SEED [PROGRAM WORD..]` does that
+//! alone. `bench launch-file SEED` prints the launch file that is timed first.
 //! Needs target/native/libsgroup_c.a; `bench/run` builds it, and gives the words that run the script program.
 
 mod agree;
 mod api;
 mod call;
 mod commands;
+mod launches;
 mod namespaces;
 mod plain;
 mod race;
@@ -16,13 +18,15 @@ mod tables;
 /// Walks of random calls on which both sides agree.
 const WALKS: u64 = 200;
 
-/// The word by which both sides are only held to the same, and nothing is timed.
+/// The word by which both sides are only held to the same, and nothing is timed; and the one by which the main launch file is printed.
 const AGREE: &str = "agree";
+const LAUNCH_FILE: &str = "launch-file";
 
 fn main() {
     let arguments: Vec<String> = std::env::args().skip(1).collect();
     match arguments.as_slice() {
         [word] if word == scripts::PLAIN => scripts::run_plain(),
+        [word, seed] if word == LAUNCH_FILE => print_launch_file(number(seed)),
         [word, seed, program @ ..] if word == AGREE => agree_only(number(seed), program),
         [seed, program @ ..] => times(number(seed), program),
         [] => usage(),
@@ -34,7 +38,7 @@ fn number(seed: &str) -> u64 {
 }
 
 fn usage() -> ! {
-    eprintln!("usage: bench [agree] SEED [PROGRAM WORD..]");
+    eprintln!("usage: bench [agree] SEED [PROGRAM WORD..] | bench launch-file SEED");
     std::process::exit(2)
 }
 
@@ -50,10 +54,21 @@ fn agree_on_namespaces(seed: u64) {
     println!("{spaces} random namespaces: the same answers and words");
 }
 
+fn agree_on_launches(seed: u64) {
+    let launches = launches::agree(seed);
+    println!("{launches} random launches: the same answers, places and words");
+}
+
+fn print_launch_file(seed: u64) {
+    let file = launches::main_file(seed);
+    std::io::Write::write_all(&mut std::io::stdout(), &file).expect("room for the file");
+}
+
 /// Holds both sides to the same; the scripts where the program is given.
 fn agree_only(seed: u64, program: &[String]) {
     agree_on_calls(seed);
     agree_on_namespaces(seed);
+    agree_on_launches(seed);
     if !program.is_empty() {
         let scripts = scripts::agree(seed, program);
         println!("{scripts} scripts: the same lines");
@@ -69,6 +84,9 @@ fn times(seed: u64, program: &[String]) {
     println!();
     agree_on_namespaces(seed);
     namespaces::times(seed);
+    println!();
+    agree_on_launches(seed);
+    launches::times(seed);
     if !program.is_empty() {
         scripts::times(seed, program);
     }

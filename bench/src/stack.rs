@@ -3,11 +3,12 @@
 use crate::api::{Api, PROVED};
 use crate::call::{calls, Asked, Lent, Which};
 use crate::commands::{free_rows, main_cases};
+use crate::launches::{called, stack_rows};
 use crate::tables::{table, Size, FULL};
 use model::prng::Prng;
 
 const PAINT: u64 = 0xa5a5_5a5a_c3c3_3c3c;
-const DEPTH: usize = 16 * 1024;
+const DEPTH: usize = 64 * 1024;
 
 /// Paints the stack below the caller; where the paint begins.
 #[inline(never)]
@@ -41,7 +42,7 @@ const NOTHING: Api = Api {
     ..PROVED
 };
 
-/// The test, then each command; bytes beyond those of a call of nothing.
+/// The test, then each command and a launch; bytes beyond those of a call of nothing.
 pub fn depths(seed: u64) {
     let measured = std::thread::Builder::new()
         .stack_size(1 << 20)
@@ -71,6 +72,11 @@ fn measure(seed: u64) -> Vec<(String, usize)> {
     ];
     for which in Which::COMMANDS {
         all.push((format!("{which:?}"), command(&mut prng, base, which)));
+    }
+    for (what, given) in stack_rows(&mut prng) {
+        let mut lent = Lent::new(&words);
+        let bytes = depth(&mut || u64::from(called(&PROVED, &mut lent, &given)));
+        all.push((what.to_string(), bytes.saturating_sub(base)));
     }
     all
 }

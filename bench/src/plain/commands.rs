@@ -1,5 +1,6 @@
 //! The plain functions with the interface of the proved library: lent runs as pointers and lengths, with the test before each step or without.
 
+use super::launch;
 use super::sound::{self, Table};
 use super::steps::{self, error, Answer};
 use crate::api::Api;
@@ -63,6 +64,34 @@ unsafe extern "C" fn open(
     )
 }
 
+unsafe extern "C" fn launch(
+    t: *mut u64,
+    len: usize,
+    n: u32,
+    hidden: u64,
+    start: u32,
+    book: *const u8,
+    book_len: usize,
+    file: *const u8,
+    file_len: usize,
+    a: *mut u64,
+    room: usize,
+) -> u32 {
+    let (table, run) = (from_raw_parts_mut(t, len), from_raw_parts_mut(a, room));
+    let (book, file) = (
+        from_raw_parts(book, book_len),
+        from_raw_parts(file, file_len),
+    );
+    if room < ANSWER_WORDS {
+        return u32::MAX;
+    }
+    let launched = |table| launch::launch(table, n, hidden, start, book, file);
+    put(
+        run,
+        <&mut Table>::try_from(table).map_or(error(1), launched),
+    )
+}
+
 /// A command of numbers that writes no list.
 macro_rules! command {
     ($name:ident ($($arg:ident : $width:ty),*)) => {
@@ -118,5 +147,6 @@ pub const fn api<const TEST: bool>() -> Api {
         delete_s_group: delete_s_group::<TEST>,
         own_nodes: own_nodes::<TEST>,
         own_s_groups: own_s_groups::<TEST>,
+        launch,
     }
 }

@@ -1,6 +1,7 @@
 //! The same as the proved library in plain Rust, written for speed over the same words: what they are held against.
 
 pub mod commands;
+pub mod launch;
 pub mod namespace;
 pub mod script;
 pub mod sound;

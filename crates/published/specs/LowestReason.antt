@@ -77,7 +77,8 @@ above b (u ∷ us) h t (List·Memᴰ·tail i) =
     let p = and-eq-true-iff (ltb b (rank (u .reason))) _ .0 h in
     omega (arith, ltb-true b (rank (u .reason)) (p .0), above (rank (u .reason)) us (p .1) t i)
 
-first-lowest : (b : ℕ) (ts : List Test) → ascending b (ranks ts) ≡ true → Lowest ts (first ts)
+-- where ranks ascend, the first that holds is the lowest
+pub first-lowest : (b : ℕ) (ts : List Test) → ascending b (ranks ts) ≡ true → Lowest ts (first ts)
 first-lowest b [] h = record { given = inl (refl, λ t i. absurd (List·Memᴰ·not-nil i)); least = λ t i. absurd (List·Memᴰ·not-nil i) }
 first-lowest b (u ∷ us) h = go (u .holds) refl (first-lowest (rank (u .reason)) us rest)
   where

@@ -6,6 +6,8 @@ ghost use Rattle.commands.specs.declared.Command.the-variants.{RegisterName, Re
 ghost use Rattle.semantics.specs.Call.{opening};
 ghost use Rattle.semantics.specs.Test.{sound};
 ghost use Rattle.answer_words.specs.AnswerWords.{told, commanded};
+ghost use Rattle.launch.specs.Launch.{launch};
+ghost use Rattle.sgroup_c.specs.LaunchWords.{launch-told};
 use answer_words::put;
 use commands::Command;
 
@@ -14,6 +16,9 @@ const ANSWER_WORDS: usize = 4;
 
 // What is returned where the run for the answer is shorter; nothing is called then.
 const NO_ROOM: u32 = 4294967295;
+
+// Where the place of a refused launch stands in its answer.
+const PLACE_AT: usize = 1;
 
 // Whether the run is a sound table.
 #[no_mangle]
@@ -34,6 +39,31 @@ pub extern "C" fn sgroup_open(table: &mut [u64], n: u32, hidden: u64, answer: &m
         return NO_ROOM;
     }
     put(answer, opening::open(table, n, hidden))
+}
+
+// Opens the table for n nodes, some of them hidden, and makes the s_groups of a launch file, by the book; start is the node that is started.
+#[no_mangle]
+pub extern "C" fn sgroup_launch(
+    table: &mut [u64],
+    n: u32,
+    hidden: u64,
+    start: u32,
+    book: &[u8],
+    file: &[u8],
+    answer: &mut [u64],
+) -> u32
+    ensures { λ r. ⌜ r ≡ launch-told (launch n hidden start (now (book .entry)) (now (file .entry)) (now (table .entry))) (now (answer .entry)) (now (table .entry)) .returned ⌝ }
+    ensures { λ _. ⌜ now (answer .exit) ≡ launch-told (launch n hidden start (now (book .entry)) (now (file .entry)) (now (table .entry))) (now (answer .entry)) (now (table .entry)) .answer ⌝ }
+    ensures { λ _. ⌜ now (table .exit) ≡ launch-told (launch n hidden start (now (book .entry)) (now (file .entry)) (now (table .entry))) (now (answer .entry)) (now (table .entry)) .table ⌝ }
+{
+    if answer.len() < ANSWER_WORDS {
+        return NO_ROOM;
+    }
+    let launched = launch::launch(table, n, hidden, start, book, file);
+    let place = launched.place;
+    let reason = put(answer, launched.answer);
+    answer[PLACE_AT] = place as u64;
+    reason
 }
 
 // A command, with its answer in the run `answer` and no run for a list.

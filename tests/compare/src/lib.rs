@@ -10,9 +10,7 @@
 
 pub mod case;
 pub mod kept;
-#[cfg(feature = "launch")]
 pub mod launch;
-#[cfg(feature = "launch")]
 pub mod launch_kept;
 pub mod library;
 pub mod parts;

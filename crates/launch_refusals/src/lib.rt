@@ -114,10 +114,16 @@ fn put_book_fault(out: &mut [u8], at: usize, name: &[u8], fault: Fault) -> usize
     }
 }
 
-// Whether it is the book that is refused, and not the file.
-fn is_book_refused(book: &[u8], n: u32, place: usize) -> bool {
+// Whether it is the book that is refused, and not the file. A file that is none is refused at its own place, and where that is 0 too the book is tested.
+fn is_book_refused(book: &[u8], n: u32, text: &[u8], place: usize) -> bool {
     if 0 < place {
         return false;
+    }
+    let Reading::Refused(p) = reader::read_file(text) else {
+        return true;
+    };
+    if 0 < p {
+        return true;
     }
     let mut index = [0u8; book::INDEX_SIZE];
     !book::fit(book, n, &mut index)
@@ -265,7 +271,7 @@ pub fn put_refusal(
         Reason::RosterSize => put_bytes(out, p, b"N is not 1 to 64\n"),
         Reason::NodeUnknown => put_no_node(out, p, n, asked.hidden),
         Reason::NoLaunchFile => {
-            if is_book_refused(book, n, place) {
+            if is_book_refused(book, n, front(room, len), place) {
                 return put_book_fault(out, p, book_name, launch_faults::book_fault(book, n));
             }
             put_slip(out, p, name, room, len, place)

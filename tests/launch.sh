@@ -302,6 +302,11 @@ done
 "$root/icespruce" launch book none.config 8 0 0 >/dev/full 2>said
 [ $? -eq 2 ] && grep -q 'cannot be written' said || wrong "a full disk: the status is not 2, or the reason is not given"
 
+(ulimit -S -s 4096 && "$root/icespruce" launch book none.config 8 0 0) >out 2>said
+[ $? -eq 0 ] && [ ! -s said ] || wrong "a small stack that can grow: the status is not 0, or something is said"
+(ulimit -s 4096 && "$root/icespruce" launch book none.config 8 0 0) >out 2>said
+[ $? -eq 2 ] && grep -q 'stack of 6144 KiB' said || wrong "a small stack: the status is not 2, or the reason is not given"
+
 # ---- the page
 
 # What a launch in the repository prints stands in docs/LAUNCH.md: shown ARGUMENT..

@@ -1,6 +1,6 @@
 #!/usr/bin/env bash
 # The launcher proves and builds the program before it runs it, tried with a kit and a program that only pretend: its progress, one launch at a time, what
-# it makes of a kit that refuses, fails or is another one, and that nothing is left of it when it is ended.
+# it makes of a kit that refuses, fails or is another one, that each of the two programs is proved for itself, and that nothing is left of it when it is ended.
 set -uo pipefail
 cd "$(dirname "${BASH_SOURCE[0]}")/.."
 bad=0
@@ -9,9 +9,10 @@ trap 'rm -rf "$room"' EXIT
 root=$room/root
 mkdir -p "$root/crates" "$room/bin" "$room/temporary"
 cp icespruce VERSION kit.txt "$root"
-printf '# a comment: with a colon\nlow:\nside: low\nsgroup_run: low io\n' >"$root/crates.txt"
+printf '# a comment: with a colon\nlow:\nside: low\nsgroup_run: low io\nsgroup_launch: low side os\n' >"$root/crates.txt"
 
-# A kit that takes `pause` seconds, then ends with `status`; where that is 0 it makes a program that prints its input, or waits where `pause` is not 0.
+# A kit that takes `pause` seconds, then ends with `status`; where that is 0 it makes a program that prints its input, or `answer` where it has arguments, or
+# waits where `pause` is not 0.
 cat >"$room/bin/rt" <<'KIT'
 #!/bin/sh
 room=${0%/bin/rt}
@@ -24,9 +25,9 @@ wait $!
 status=$(cat "$room/status")
 [ "$status" -eq 0 ] || exit "$status"
 mkdir -p target/bin
-printf '#!/bin/sh\nread seconds <%s/pause\n[ "$seconds" -eq 0 ] || { echo $$ >%s/sleeper; exec sleep "$seconds"; }\ncat\n' "$room" "$room" >target/bin/sgroup_run
-chmod +x target/bin/sgroup_run
-echo "rt: sgroup_run proved (2 s)"
+printf '#!/bin/sh\nread seconds <%s/pause\n[ "$seconds" -eq 0 ] || { echo $$ >%s/sleeper; exec sleep "$seconds"; }\n[ $# -eq 0 ] || exec cat %s/answer\ncat\n' "$room" "$room" "$room" >"target/bin/$2"
+chmod +x "target/bin/$2"
+echo "rt: $2 proved (2 s)"
 KIT
 # The program that pretends runs on every processor.
 printf '#!/bin/sh\necho x86_64\n' >"$room/bin/uname"
@@ -41,9 +42,10 @@ kit() {
     cp kit.txt "$room/version"
 }
 
-# A launch, with what it says in $room/said
+# A launch of a script, or with other arguments, with what it says in $room/said: launch [ARGUMENT..]
 launch() {
-    PATH=$room/bin:$PATH TMPDIR=$room/temporary timeout 60 "$root/icespruce" "$room/script" >"$room/printed" 2>"$room/said"
+    [ $# -gt 0 ] || set -- "$room/script"
+    PATH=$room/bin:$PATH TMPDIR=$room/temporary timeout 60 "$root/icespruce" "$@" >"$room/printed" 2>"$room/said"
 }
 
 # Something that has to hold: holds WHAT COMMAND..
@@ -53,9 +55,9 @@ holds() {
     "$@" || { echo "$what; standard error has: $(cat "$room/said")"; bad=1; }
 }
 
-# A launch has this status and says this, a pattern: launches STATUS WORDS
+# A launch has this status and says this, a pattern: launches STATUS WORDS [ARGUMENT..]
 launches() {
-    launch
+    launch "${@:3}"
     holds "the status is not $1" test $? -eq "$1"
     holds "it does not say '$2'" grep -q -e "$2" "$room/said"
 }
@@ -68,6 +70,23 @@ launch
 holds "a second launch says something" test ! -s "$room/said"
 touch "$root/crates/low"
 launches 0 'the last time took [0-9]* seconds'
+
+# The other program, whose first line says whether a launch is refused.
+table=(launch "$room/script" "$room/script" 1 0 0)
+echo 'ok 0' >"$room/answer"
+launches 0 'crate 2 of 3: sgroup_launch proved' "${table[@]}"
+holds "the launch is not printed" cmp "$room/answer" "$room/printed"
+launch
+holds "a script is proved again behind a launch" test ! -s "$room/said"
+printf 'error 18 3\nok 0\n' >"$room/answer"
+launch "${table[@]}"
+holds "the status of a launch that is refused is not 1" test $? -eq 1
+holds "a launch that is refused says something" test ! -s "$room/said"
+holds "the refusal is not printed" cmp "$room/answer" "$room/printed"
+kit 1 0
+launches 2 'not proved' "${table[@]}"
+kit 2 0
+launches 3 'the Rattle kit failed (status 2)' "${table[@]}"
 
 kit 1 0
 launches 1 'not proved'

@@ -110,6 +110,7 @@ echo "icespruce $(cat VERSION), proved with $(rt version)" >"$room/expected"
 prints "the version" 0 "$room/expected" run --version
 run --help >"$room/help" || { echo "the help: status $?"; bad=1; }
 grep -q -e 'icespruce - .*standard input' "$room/help" || { echo "the help does not name standard input"; bad=1; }
+grep -q -e 'icespruce launch BOOK FILE N HIDDEN START' "$room/help" || { echo "the help does not name launches"; bad=1; }
 
 # A script that runs as ever, with one hint on standard error: hinted NAME WORDS EXPECTED-FILE COMMAND..
 hinted() {

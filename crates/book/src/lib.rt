@@ -49,7 +49,7 @@ pub fn line(book: &[u8], i: usize) -> &[u8]
 }
 
 // The place, from 0, of the first line that is an atom, or the number of lines where none is.
-fn seek(book: &[u8], atom: &[u8]) -> usize
+pub fn seek(book: &[u8], atom: &[u8]) -> usize
     ensures { λ r. ⌜ r ≡ place-of (now (atom .entry)) (lines (now (book .entry))) ⌝ }
 {
     let mut t = book;

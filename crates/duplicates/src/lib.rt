@@ -122,7 +122,7 @@ fn agreed(text: &[u8], g: usize, name: &[u8], at: usize) -> bool
 }
 
 // Whether a node is among those at a place, and not every group of a name has these.
-fn torn(text: &[u8], g: usize, name: &[u8], at: usize, node: &[u8]) -> bool
+pub fn torn(text: &[u8], g: usize, name: &[u8], at: usize, node: &[u8]) -> bool
     ensures { λ r. ⌜ r ≡ torn (groups (now (text .entry)) g) (now (name .entry)) (nodes (now (text .entry)) at) (now (node .entry)) ⌝ }
 {
     if !holds(text, at, node) {

@@ -16,11 +16,11 @@ Inv-loop text n table₀ out₀ at₀ t10 table out at = (length table ≡ lengt
 abbrev μ-loop : tie.MeasureT-loop
 μ-loop text n table₀ out₀ at₀ t10 table out at = n - at
 
-slice-aggregate-read-input : tie.Need-slice-aggregate-read-input Inv-loop μ-loop
-slice-aggregate-read-input c = search needs
+slice-aggregate-read-all : tie.Need-slice-aggregate-read-all Inv-loop μ-loop
+slice-aggregate-read-all c = search needs
 
-read-input-requires : tie.Need-read-input-requires Inv-loop μ-loop
-read-input-requires c κs = search needs
+read-all-requires : tie.Need-read-all-requires Inv-loop μ-loop
+read-all-requires c κs = search needs
 
 slice-aggregate-fail : tie.Need-slice-aggregate-fail Inv-loop μ-loop
 slice-aggregate-fail c = search needs
@@ -38,7 +38,7 @@ array-share-prefix-text : tie.Need-array-share-prefix-text Inv-loop μ-loop
 array-share-prefix-text c = search needs
 
 slice-aggregate-run : tie.Need-slice-aggregate-run Inv-loop μ-loop
-slice-aggregate-run c = sym (length-take-le _ _ (c .before .before .before .before .before .read-input .ensures))
+slice-aggregate-run c = sym (length-take-le _ _ (c .before .before .before .before .before .read-all .ensures))
 
 slice-aggregate-run-2 : tie.Need-slice-aggregate-run-2 Inv-loop μ-loop
 slice-aggregate-run-2 c = search needs
@@ -69,7 +69,7 @@ returns-2 c = search needs
 
 loop-less : tie.Need-loop-less Inv-loop μ-loop
 loop-less c =
-    let m = run-moves _ _ _ _ _ _ _ _ _ (c .before .before .before .before .before .run .ensures) (c .before .before .before .before .before .before .before .before .before .before .before .before .before .read-input .ensures) (c .before .before .before .before .before .before .before .before .before .loop-test .taken) (omega arith) in
+    let m = run-moves _ _ _ _ _ _ _ _ _ (c .before .before .before .before .before .run .ensures) (c .before .before .before .before .before .before .before .before .before .before .before .before .before .read-all .ensures) (c .before .before .before .before .before .before .before .before .before .loop-test .taken) (omega arith) in
     omega arith
 
 loop-again : tie.Need-loop-again Inv-loop μ-loop
@@ -84,8 +84,8 @@ main-spec =
     (tie.spec
     Inv-loop
     μ-loop
-    slice-aggregate-read-input
-    read-input-requires
+    slice-aggregate-read-all
+    read-all-requires
     slice-aggregate-fail
     fail-requires
     returns

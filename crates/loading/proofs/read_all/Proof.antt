@@ -1,17 +1,17 @@
--- `sgroup_run::read_input` meets its contract: what is read goes behind what was read before, and each turn leaves less room.
+-- `loading::read_all` meets its contract: what is read goes behind what was read before, and each turn leaves less room.
 -- Assumes nothing.
 use borrow.Author.Needs.{needs}
 use mathlib.Core.Path.{_≡_}
 use Prim.Native.Nat.{_≤_, _-_}
 use lib.ListN.{length}
-use Rattle.sgroup_run.proofs.read_input.Statement.{statement}
-use Rattle.sgroup_run.proofs.read_input.Tie as tie
+use Rattle.loading.proofs.read_all.Statement.{statement}
+use Rattle.loading.proofs.read_all.Tie as tie
 
 abbrev Inv-loop : tie.InvT-loop
-Inv-loop buf₀ len₀ buf len = (len ≤ length buf) × (length buf ≡ length buf₀)
+Inv-loop fd buf₀ len₀ buf len = (len ≤ length buf) × (length buf ≡ length buf₀)
 
 abbrev μ-loop : tie.MeasureT-loop
-μ-loop buf₀ len₀ buf len = length buf - len
+μ-loop fd buf₀ len₀ buf len = length buf - len
 
 loop-holds : tie.Need-loop-holds Inv-loop μ-loop
 loop-holds c = search needs
@@ -67,8 +67,8 @@ same-length-3 c = search needs
 returns-3 : tie.Need-returns-3 Inv-loop μ-loop
 returns-3 c = search needs
 
-pub read-input-spec : {M : Type 1} → statement M
-read-input-spec =
+pub read-all-spec : {M : Type 1} → statement M
+read-all-spec =
     tie.close
     (tie.spec
     Inv-loop

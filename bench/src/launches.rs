@@ -235,11 +235,24 @@ fn long_value(prng: &mut Prng) -> Launch {
     with_pairs(prng, MAIN, &format!("{{log, [{value}none]}},\n "))
 }
 
-/// The main file with a value of brackets as deep as they may be.
-fn deep_value(prng: &mut Prng) -> Launch {
+/// A pair whose value has brackets as deep as they may be.
+fn deep_pair() -> String {
     let open: String = "[{".repeat(DEEPEST / 2);
     let close: String = "}]".repeat(DEEPEST / 2);
-    with_pairs(prng, MAIN, &format!("{{deep, {open}{close}}},\n "))
+    format!("{{deep, {open}{close}}}")
+}
+
+/// The main file with such a pair before the entry.
+fn deep_value(prng: &mut Prng) -> Launch {
+    with_pairs(prng, MAIN, &format!("{},\n ", deep_pair()))
+}
+
+/// The main file with such a pair behind the entry.
+fn deep_end(prng: &mut Prng) -> Launch {
+    let mut given = launch(prng, MAIN);
+    given.file.truncate(given.file.len() - "].\n".len());
+    given.file.extend_from_slice(format!(",\n {}].\n", deep_pair()).as_bytes());
+    given
 }
 
 /// As many groups and nodes as the main file has, over the largest book, of lines of 64 bytes that differ in the last.
@@ -318,21 +331,25 @@ pub fn times(seed: u64) {
     }
 }
 
-fn hard(prng: &mut Prng) -> [(&'static str, Launch); 6] {
+fn hard(prng: &mut Prng) -> [(&'static str, Launch); 7] {
     [
         ("1,000 groups of one name and list", repeated(prng, 1_000)),
         ("10,000 groups of one name and list", repeated(prng, 10_000)),
         ("a skipped value of 100,000 bytes", long_value(prng)),
         ("a value nested to depth 16", deep_value(prng)),
+        ("another pair behind the groups", deep_end(prng)),
         ("65,599 lines that differ at their end", long_prefixes(prng)),
         ("refused: no full stop", unended(prng)),
     ]
 }
 
 /// The launches whose stack is measured.
-pub fn stack_rows(prng: &mut Prng) -> [(&'static str, Launch); 2] {
+pub fn stack_rows(prng: &mut Prng) -> [(&'static str, Launch); 5] {
     [
         ("Launch", launch(prng, MAIN)),
-        ("Launch, depth 16", deep_value(prng)),
+        ("Launch, deep in front", deep_value(prng)),
+        ("Launch, deep behind", deep_end(prng)),
+        ("Launch, one name", repeated(prng, 4)),
+        ("Launch, refused", unended(prng)),
     ]
 }

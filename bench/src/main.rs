@@ -1,6 +1,6 @@
 //! Times the proved library against plain Rust written for speed, in one run, and prints the ratios: `bench SEED [PROGRAM WORD..]`. First both are held to
 //! the same answers and words on random calls, namespaces and launches, and to the same lines on the scripts; `bench agree SEED [PROGRAM WORD..]` does that
-//! alone. `bench launch-file SEED` prints the launch file that is timed first.
+//! alone, and holds the stack of each call to its bar. `bench launch-file SEED` prints the launch file that is timed first.
 //! Needs target/native/libsgroup_c.a; `bench/run` builds it, and gives the words that run the script program.
 
 mod agree;
@@ -59,16 +59,25 @@ fn agree_on_launches(seed: u64) {
     println!("{launches} random launches: the same answers, places and words");
 }
 
+/// On x86-64, for which the kit compiles.
+fn hold_stack(seed: u64) {
+    if cfg!(target_arch = "x86_64") {
+        let bytes = stack::held(seed);
+        println!("no call takes more than {bytes} bytes of stack");
+    }
+}
+
 fn print_launch_file(seed: u64) {
     let file = launches::main_file(seed);
     std::io::Write::write_all(&mut std::io::stdout(), &file).expect("room for the file");
 }
 
-/// Holds both sides to the same; the scripts where the program is given.
+/// Holds both sides to the same, and the stack to its bar; the scripts where the program is given.
 fn agree_only(seed: u64, program: &[String]) {
     agree_on_calls(seed);
     agree_on_namespaces(seed);
     agree_on_launches(seed);
+    hold_stack(seed);
     if !program.is_empty() {
         let scripts = scripts::agree(seed, program);
         println!("{scripts} scripts: the same lines");

@@ -9,6 +9,8 @@ use model::prng::Prng;
 
 const PAINT: u64 = 0xa5a5_5a5a_c3c3_3c3c;
 const DEPTH: usize = 64 * 1024;
+/// The most that a call may take.
+const BAR: usize = 2048;
 
 /// Paints the stack below the caller; where the paint begins.
 #[inline(never)]
@@ -42,18 +44,31 @@ const NOTHING: Api = Api {
     ..PROVED
 };
 
-/// The test, then each command and a launch; bytes beyond those of a call of nothing.
-pub fn depths(seed: u64) {
-    let measured = std::thread::Builder::new()
+/// What each call takes, in a thread of its own: the test, then each command and launches; bytes beyond those of a call of nothing.
+fn measured(seed: u64) -> Vec<(String, usize)> {
+    std::thread::Builder::new()
         .stack_size(1 << 20)
         .spawn(move || measure(seed))
         .expect("a thread")
         .join()
-        .expect("its result");
-    println!("\n{:<20} {:>12}", "function", "stack bytes");
-    for (what, bytes) in measured {
-        println!("{what:<20} {bytes:>12}");
+        .expect("its result")
+}
+
+pub fn depths(seed: u64) {
+    println!("\n{:<22} {:>12}", "function", "stack bytes");
+    for (what, bytes) in measured(seed) {
+        let over = if bytes > BAR { "  over the bar" } else { "" };
+        println!("{what:<22} {bytes:>12}{over}");
     }
+}
+
+/// Holds each call to the bar; the most that one takes.
+pub fn held(seed: u64) -> usize {
+    let all = measured(seed);
+    for (what, bytes) in &all {
+        assert!(*bytes <= BAR, "{what} takes {bytes} bytes of stack");
+    }
+    all.iter().map(|(_, bytes)| *bytes).max().unwrap_or(0)
 }
 
 fn measure(seed: u64) -> Vec<(String, usize)> {

@@ -1,8 +1,9 @@
--- Marks tell most atoms apart at little cost: atoms with different marks differ. No promise to a caller rests on which mark
--- an atom has. Assumes nothing.
+-- Marks tell most atoms apart at little cost: atoms with different marks differ. That is all that a mark says, and no promise
+-- to a caller rests on which mark an atom has. Assumes nothing.
 use mathlib.Core.Bool.{cond}
 use mathlib.Core.List.{List}
-use Prim.Native.Nat.{ℕ, zero, suc, _+_, _-_, _*_, _/_, _%_}
+use Prim.Native.Nat.{ℕ, _+_, _-_, _*_, _/_, _%_}
+use lib.Bits.{bitXor}
 use lib.Dec.{eqb, ltb}
 use lib.ListN.{length, getD}
 
@@ -26,27 +27,20 @@ eight t i = four t i + four t (i + 4) * half-word
 unfoldable pub few : List ℕ → ℕ
 few t = getD t 0 0 + getD t (length t / 2) 0 * 256 + getD t (length t - 1) 0 * 65536
 
--- the last eight bytes of an atom as one number, or all where it has less
-unfoldable pub last-word : List ℕ → ℕ
-last-word t =
+-- the bytes of an atom as one number, where they are less than eight
+unfoldable pub short-word : List ℕ → ℕ
+short-word t =
     cond (eqb (length t) 0) 0
     (cond (ltb (length t) 4) (few t)
-    (cond (ltb (length t) 8) (four t 0 + four t (length t - 4) * half-word)
-    (eight t (length t - 8))))
+    (four t 0 + four t (length t - 4) * half-word))
 
--- marks lie below this
-abbrev pub mark-limit : ℕ
-mark-limit = 1073741824
+-- a number whose low digits depend on all digits of a word
+unfoldable pub mixed : ℕ → ℕ
+mixed w = (w % half-word * 1000000007 + w / half-word * 1540483477) / 16777216
 
--- a number folded into a mark
-unfoldable pub mixed : ℕ → ℕ → ℕ
-mixed m w = ((m + w % half-word) * 1000000007 + w / half-word * 1540483477) / 16777216 % mark-limit
-
--- the first k eights of an atom folded together
-unfoldable pub folded : ℕ → List ℕ → ℕ
-folded zero t = 0
-folded (suc k) t = mixed (folded k t) (eight t (k * 8))
-
--- the mark of an atom: every byte counts
+-- the mark of an atom: of its first, middle and last eight bytes, or of all where it has less than eight
 unfoldable pub mark-of : List ℕ → ℕ
-mark-of t = mixed (folded ((length t - 1) / 8) t) (last-word t)
+mark-of t =
+    mixed
+    (cond (ltb (length t) 8) (short-word t)
+    (bitXor (bitXor (eight t 0) (eight t (length t - 8))) (eight t ((length t - 8) / 2) / 32)))

@@ -5,32 +5,39 @@ use mathlib.Core.List.{List}
 use Prim.Native.Nat.{ℕ, _+_, _-_, _*_, _/_, _≤_, _<_}
 use native.Mathlib.Omega.{arith}
 use borrow.Author.Tests.{eq-eqb, ne-eqb, lt-ltb, le-ltb}
+use lib.Bits.{bitOr, bitXor, and-le-l, and-le-r, or-add-and, xor-add-and}
 use lib.ListN.{length, getD}
 use Rattle.nodes.specs.Bools.{by-lt, by-eq}
-use Rattle.atoms.specs.Marks.{half-word, two, four, eight, few, last-word}
+use Rattle.atoms.specs.Marks.{half-word, two, four, eight, few, short-word}
 
 -- every element is a byte
 abbrev pub Bytes : List ℕ → Type 0
 Bytes t = (k : ℕ) → getD t k 0 < 256
 
--- ---- the last word, by the length
+-- ---- the word of a short atom, by the length
 
-pub last-none : (t : List ℕ) → length t ≡ 0 → last-word t ≡ 0
-unfolding last-word
-last-none t h = rw (eq-eqb (length t) 0 h)
+pub short-none : (t : List ℕ) → length t ≡ 0 → short-word t ≡ 0
+unfolding short-word
+short-none t h = rw (eq-eqb (length t) 0 h)
 
 module _ (t : List ℕ) (some : length t ≡ 0 → ⊥) where
-  pub last-few : length t < 4 → last-word t ≡ few t
-  unfolding last-word
-  last-few h = rw (ne-eqb (length t) 0 some, lt-ltb (length t) 4 h)
+  pub short-few : length t < 4 → short-word t ≡ few t
+  unfolding short-word
+  short-few h = rw (ne-eqb (length t) 0 some, lt-ltb (length t) 4 h)
 
-  pub last-fours : 4 ≤ length t → length t < 8 → last-word t ≡ four t 0 + four t (length t - 4) * half-word
-  unfolding last-word
-  last-fours l h = rw (ne-eqb (length t) 0 some, le-ltb (length t) 4 l, lt-ltb (length t) 8 h)
+  pub short-fours : 4 ≤ length t → short-word t ≡ four t 0 + four t (length t - 4) * half-word
+  unfolding short-word
+  short-fours l = rw (ne-eqb (length t) 0 some, le-ltb (length t) 4 l)
 
-  pub last-eight : 8 ≤ length t → last-word t ≡ eight t (length t - 8)
-  unfolding last-word
-  last-eight l = rw (ne-eqb (length t) 0 some, le-ltb (length t) 4 (omega arith), le-ltb (length t) 8 l)
+-- ---- bits
+
+-- words that differ in no bit are equal
+pub no-difference : (x y : ℕ) → bitXor x y ≡ 0 → x ≡ y
+no-difference x y h = omega (arith, xor-add-and x y, and-le-l x y, and-le-r x y)
+
+-- no bit is set in two words together where none is in either
+pub none-in-both : (x y : ℕ) → bitOr x y ≡ 0 → (x ≡ 0) × (y ≡ 0)
+none-in-both x y h = (omega (arith, or-add-and x y, and-le-r x y), omega (arith, or-add-and x y, and-le-l x y))
 
 -- ---- bytes
 
@@ -80,21 +87,16 @@ module _ (a b : List ℕ) (in-a : Bytes a) (in-b : Bytes b) where
         (by-eq k (length a / 2)))
         (by-eq k 0)
 
-    -- the last eight bytes
-    pub last-parts : last-word a ≡ last-word b → (k : ℕ) → k < length a → length a ≤ k + 8 → getD a k 0 ≡ getD b k 0
-    last-parts e k h l =
+    pub short-parts : short-word a ≡ short-word b → length a < 8 → (k : ℕ) → k < length a → getD a k 0 ≡ getD b k 0
+    short-parts e s k h =
         let x : length a ≡ 0 → ⊥ = λ q. omega arith in
         let y : length b ≡ 0 → ⊥ = λ q. omega arith in
         ⊎-elim
-        (λ (t : length a < 4). few-parts (sym (last-few a x t) ∙ e ∙ last-few b y (omega arith)) t k h)
+        (λ (t : length a < 4). few-parts (sym (short-few a x t) ∙ e ∙ short-few b y (omega arith)) t k h)
         (λ (t : 4 ≤ length a).
-        ⊎-elim
-        (λ (u : length a < 8).
-        let f : four a 0 + four a (length a - 4) * half-word ≡ four b 0 + four b (length a - 4) * half-word = rw (← n) at (sym (last-fours a x t u) ∙ e ∙ last-fours b y (omega arith) (omega arith)) in
+        let f : four a 0 + four a (length a - 4) * half-word ≡ four b 0 + four b (length a - 4) * half-word = rw (← n) at (sym (short-fours a x t) ∙ e ∙ short-fours b y (omega arith)) in
         ⊎-elim
         (λ (v : k < 4). four-parts 0 (omega (arith, four-below a 0 in-a, four-below b 0 in-b)) k (omega arith) v)
         (λ (v : 4 ≤ k). four-parts (length a - 4) (omega (arith, four-below a 0 in-a, four-below b 0 in-b)) k (omega arith) (omega arith))
         (by-lt k 4))
-        (λ (u : 8 ≤ length a). eight-parts (length a - 8) (rw (← n) at (sym (last-eight a x u) ∙ e ∙ last-eight b y (omega arith))) k (omega arith) (omega arith))
-        (by-lt (length a) 8))
         (by-lt (length a) 4)

@@ -1,16 +1,15 @@
 // Atoms as runs of bytes: whether two are the same, and a mark by which most are told apart. Bytes are taken eight at a time.
 ghost use mathlib.Core.Path.{_≡_};
 ghost use Prim.Native.Nat.{_+_, _≤_, _<_};
+ghost use lib.Bits.{bitXor};
 ghost use lib.ListN.{length};
 ghost use Rattle.tokens.specs.Reserved.{same};
-ghost use Rattle.atoms.specs.Marks.{half-word, two, four, eight, few, last-word, mark-limit, mixed, mark-of};
+ghost use Rattle.atoms.specs.Marks.{half-word, two, four, eight, few, short-word, mixed, mark-of};
 
-// Numbers of 32 bits lie below this, and marks below that.
+// Numbers of 32 bits lie below this.
 const HALF_WORD: u64 = 4294967296;
 
-const MARK_LIMIT: u64 = 1073741824;
-
-// A mark is the middle of a sum of products with these.
+// A mark is a sum of products with these, without its low digits.
 const LOW_FACTOR: u64 = 1000000007;
 
 const HIGH_FACTOR: u64 = 1540483477;
@@ -57,9 +56,10 @@ fn few(atom: &[u8]) -> u64
     wide(atom[0]) + wide(atom[n / 2]) * 256 + wide(atom[n - 1]) * 65536
 }
 
-// The last eight bytes of an atom as one number, or all where it has less.
-fn last_word(atom: &[u8]) -> u64
-    ensures { λ r. ⌜ r ≡ last-word (now (atom .entry)) ⌝ }
+// The bytes of an atom as one number, where they are less than eight.
+fn short_word(atom: &[u8]) -> u64
+    requires { ⌜ length (now atom) < 8 ⌝ }
+    ensures { λ r. ⌜ r ≡ short-word (now (atom .entry)) ⌝ }
 {
     let n = atom.len();
     if n == 0 {
@@ -68,19 +68,14 @@ fn last_word(atom: &[u8]) -> u64
     if n < 4 {
         return few(atom);
     }
-    if n < 8 {
-        return four(atom, 0) + four(atom, n - 4) * HALF_WORD;
-    }
-    eight(atom, n - 8)
+    four(atom, 0) + four(atom, n - 4) * HALF_WORD
 }
 
-// A number folded into a mark.
-fn mixed(mark: u64, word: u64) -> u64
-    requires { ⌜ mark < mark-limit ⌝ }
-    ensures { λ r. ⌜ (r ≡ mixed mark word) × (r < mark-limit) ⌝ }
+// A number whose low digits depend on all digits of a word.
+fn mixed(word: u64) -> u64
+    ensures { λ r. ⌜ r ≡ mixed word ⌝ }
 {
-    ((mark + word % HALF_WORD) * LOW_FACTOR + word / HALF_WORD * HIGH_FACTOR) / LOW_DIGITS
-        % MARK_LIMIT
+    (word % HALF_WORD * LOW_FACTOR + word / HALF_WORD * HIGH_FACTOR) / LOW_DIGITS
 }
 
 // The mark of an atom.
@@ -88,16 +83,22 @@ pub fn mark_of(atom: &[u8]) -> u64
     ensures { λ r. ⌜ r ≡ mark-of (now (atom .entry)) ⌝ }
 {
     let n = atom.len();
-    let mut mark: u64 = 0;
-    let mut i = 0;
-    while 8 < n - i {
-        mark = mixed(mark, eight(atom, i));
-        i += 8;
+    if n < 8 {
+        return mixed(short_word(atom));
     }
-    mixed(mark, last_word(atom))
+    let ends = eight(atom, 0) ^ eight(atom, n - 8);
+    mixed(ends ^ eight(atom, (n - 8) / 2) / 32)
 }
 
-// Whether two atoms are the same.
+// The bits in which the eight bytes at a place of two atoms differ: 0 where they are the same.
+fn difference(a: &[u8], b: &[u8], at: usize) -> u64
+    requires { ⌜ (at + 8 ≤ length (now a)) × (at + 8 ≤ length (now b)) ⌝ }
+    ensures { λ r. ⌜ r ≡ bitXor (eight (now (a .entry)) at) (eight (now (b .entry)) at) ⌝ }
+{
+    eight(a, at) ^ eight(b, at)
+}
+
+// Whether two atoms are the same. The first, the last and the middle eight bytes are compared at once; up to 24 these are all.
 pub fn same(a: &[u8], b: &[u8]) -> bool
     ensures { λ r. ⌜ r ≡ same (now (a .entry)) (now (b .entry)) ⌝ }
 {
@@ -105,12 +106,21 @@ pub fn same(a: &[u8], b: &[u8]) -> bool
     if n != b.len() {
         return false;
     }
-    let mut i = 0;
+    if n < 8 {
+        return short_word(a) == short_word(b);
+    }
+    if difference(a, b, 0) | difference(a, b, n - 8) | difference(a, b, (n - 8) / 2) != 0 {
+        return false;
+    }
+    if n <= 24 {
+        return true;
+    }
+    let mut i = 8;
     while 8 < n - i {
-        if eight(a, i) != eight(b, i) {
+        if difference(a, b, i) != 0 {
             return false;
         }
         i += 8;
     }
-    last_word(a) == last_word(b)
+    true
 }

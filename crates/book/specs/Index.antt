@@ -31,6 +31,10 @@ pub record Holds (t x : List ℕ) (j : ℕ) : Type 0 where
   pub within : number-at x (j + 1) ≤ length t
   pub line-is : take (number-at x (j + 1) - 1 - number-at x j) (drop (number-at x j) t) ≡ getD (lines t) j []
 
+-- the first n lines stand where the numbers say
+abbrev pub Places : ℕ → List ℕ → List ℕ → Type 0
+Places n t x = (j : ℕ) → j < n → Holds t x j
+
 -- the numbers of an index are those of a book for n nodes
 pub record Noted (n : ℕ) (t x : List ℕ) : Type 0 where
   pub size : length x ≡ index-size

@@ -7,7 +7,7 @@ use native.Mathlib.Omega.{arith}
 use borrow.Author.Tests.{eqb-true}
 use lib.Dec.{eqb}
 use lib.ListN.{length, getD, take, drop, length-append, length-drop, take-append-drop}
-use lib.Seq.{take-all, take-add, length-take-le, getD-take, getD-append-seam}
+use lib.Seq.{take-all, take-add, take-at, length-take-le, getD-take, getD-append-seam}
 use Rattle.text.specs.Text.{newline, find-in}
 use Rattle.book.specs.Book.{lines, ended}
 use Rattle.book.specs.LineLaws.{lines-first, ended-append, lines-append}
@@ -52,6 +52,12 @@ module _ (t : List ℕ) (i at : ℕ) (P : Passed t i at) where
   -- what is passed and what is left
   split : lines t ≡ lines (take at t) ++ lines (drop at t)
   split = ap lines (sym (take-append-drop at t)) ∙ lines-append (take at t) (drop at t) (P .whole)
+
+  -- the lines passed are the first of all
+  pub first-lines : (take i (lines t) ≡ lines (take at t)) × (i ≤ length (lines t))
+  first-lines =
+      let n : length (lines t) ≡ i + length (lines (drop at t)) = ap length split ∙ length-append (lines (take at t)) (lines (drop at t)) ∙ ap (λ (k : ℕ). k + length (lines (drop at t))) (P .number) in
+      (ap (take i) split ∙ take-at (lines (take at t)) (lines (drop at t)) i (P .number), omega arith)
 
   pub end-left : ended t ≡ ended (drop at t)
   end-left = ap ended (sym (take-append-drop at t)) ∙ ended-append (take at t) (drop at t) (P .whole)

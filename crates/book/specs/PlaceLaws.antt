@@ -3,11 +3,13 @@ use mathlib.Core.Path.{_≡_, refl, sym, ap, _∙_}
 use mathlib.Core.Logic.{_⊎_, inl, inr, ⊎-elim}
 use mathlib.Core.Bool.{Bool, true, false, not, _&&_, _||_, cond, true≢false, false≢true, and-false, or-true, or-false}
 use mathlib.Core.List.{List, [], _∷_, _++_}
-use Prim.Native.Nat.{ℕ, zero, suc, _-_, _≤_, _<_}
+use Prim.Native.Nat.{ℕ, zero, suc, _+_, _-_, _≤_, _<_}
+use native.Mathlib.Numerals.{add-one}
 use native.Mathlib.Omega.{arith}
 use borrow.Author.Tests.{lt-ltb, le-ltb, not-true}
 use lib.Dec.{leb, ltb}
 use lib.ListN.{length, getD, take, drop}
+use lib.Seq.{take-suc, getD-take, length-take-le}
 use Rattle.nodes.specs.Bools.{by-lt}
 use Rattle.tokens.specs.Reserved.{same, among}
 use Rattle.tokens.specs.Words.{same-eq, same-refl, same-by}
@@ -120,6 +122,15 @@ unfolding among
 among-own [] i h = absurd (omega arith)
 among-own (l ∷ ls) zero h = rw (same-refl l)
 among-own (l ∷ ls) (suc i) h = rw (among-own ls i (omega arith)) (or-true (same (getD ls i []) l))
+
+-- an atom that is one of the first n lines is among them
+pub among-first-own : (n : ℕ) (a : List ℕ) (ls : List (List ℕ)) (j : ℕ) → j < n → n ≤ length ls → same a (getD ls j []) ≡ true → among (take n ls) a ≡ true
+among-first-own n a ls j h l e =
+    ap (among (take n ls)) (same-eq a (getD ls j []) e ∙ sym (getD-take n ls j [] h)) ∙ among-own (take n ls) j (omega (arith, length-take-le n ls l))
+
+-- one that is none of them, and not the next, is none with that one
+pub among-first-more : (j : ℕ) (a : List ℕ) (ls : List (List ℕ)) → j < length ls → among (take j ls) a ≡ false → same a (getD ls j []) ≡ false → among (take (j + 1) ls) a ≡ false
+among-first-more j a ls h e f = rw (add-one j, take-suc ls j [] h, among-more (take j ls) (getD ls j []) a, e, f)
 
 -- lines that are told apart have each its own place
 pub place-own : (ls : List (List ℕ)) (i : ℕ) → distinct ls ≡ true → i < length ls → place-of (getD ls i []) ls ≡ i

@@ -15,10 +15,10 @@ use Rattle.text.specs.Text.{newline, find-in}
 use Rattle.book_index.specs.Layout.{index-size, mark-count, number-at, with-number, has-mark, with-mark, cleared}
 use Rattle.book_index.specs.LayoutLaws.{length-with-number, number-with-same, number-with-other, mark-with-number, length-with-mark, number-with-mark, has-with-mark, length-cleared}
 use Rattle.book.specs.Book.{longest-atom, group-atoms, lines, ended, all-atoms, distinct, fit}
-use Rattle.book.specs.Index.{indexed-lines, group-number, atom-mark, Marked, Holds, Noted}
+use Rattle.book.specs.Index.{indexed-lines, group-number, atom-mark, Marked, Holds, Places, Noted}
 use Rattle.book.specs.LineLaws.{lines-count, ended-without}
 use Rattle.book.specs.PlaceLaws.{atoms-more, atoms-spoiled, among-last, distinct-more, distinct-spoiled}
-use Rattle.book.specs.Passing.{Passed, end-left, all-passed, lines-more, passed-more, lines-here, line-here}
+use Rattle.book.specs.Passing.{Passed, first-lines, end-left, all-passed, lines-more, passed-more, lines-here, line-here}
 
 -- i lines are passed, up to a place; the index has their marks, and the places of those that it has room for
 pub record Reading (t x : List ℕ) (i at : ℕ) : Type 0 where
@@ -88,6 +88,16 @@ module _ (n : ℕ) (t x : List ℕ) (i at : ℕ) (R : Reading t x i at) where
   pub no-newline : at < length t → length t ≤ at + find-in newline (drop at t) → fit n t ≡ false
   no-newline h l = unfit-end n t (end-left t i at (R .passed) ∙ ended-without (drop at t) (omega (arith, length-drop at t)) (omega (arith, length-drop at t)))
 
+  -- the places of the lines passed stay where a mark is set
+  holds-marked : (m : ℕ) → m < mark-count → (j : ℕ) → Holds t x j → Holds t (with-mark x m) j
+  holds-marked m h j = holds-still t x (with-mark x m) j (number-with-mark x m h j) (number-with-mark x m h (j + 1))
+
+  pub places-marked : (y : List ℕ) (m : ℕ) → m < mark-count → y ≡ with-mark x m → i ≤ indexed-lines
+      → (length y ≡ index-size) × (i ≤ indexed-lines) × (i ≤ length (lines t)) × Places i t y
+  places-marked y m h e l =
+      rw e
+      (length-with-mark x m h ∙ R .size, l, first-lines t i at (R .passed) .1, λ j k. holds-marked m h j (R .holds j k (omega arith)))
+
   module _ (e : ℕ) (at-end : e ≡ at + find-in newline (drop at t)) (more : e < length t) where
     abbrev line : List ℕ
     line = take (e - at) (drop at t)
@@ -134,9 +144,6 @@ module _ (n : ℕ) (t x : List ℕ) (i at : ℕ) (R : Reading t x i at) where
           (λ (m : a ≡ line). rw (eq-eqb (atom-mark line) (atom-mark a) (ap atom-mark (sym m))) (or-true (has-mark x (atom-mark a))))
           (among-last (lines (take at t)) line a (sym (ap (λ (ls : List (List ℕ)). among ls a) (lines-more t i at (R .passed) e at-end more)) ∙ h))
 
-      holds-marked : (j : ℕ) → Holds t x j → Holds t marked-index j
-      holds-marked j = holds-still t x marked-index j (number-with-mark x (atom-mark line) (fits-mark line) j) (number-with-mark x (atom-mark line) (fits-mark line) (j + 1))
-
       -- the index has no room for its place
       pub goes-past : indexed-lines < i + 1 → Reading t marked-index (i + 1) (e + 1)
       goes-past h = record {
@@ -147,7 +154,7 @@ module _ (n : ℕ) (t x : List ℕ) (i at : ℕ) (R : Reading t x i at) where
         differ = differ-more;
         marked = marked-more;
         begins = λ k. absurd (omega arith);
-        holds = λ j l k. holds-marked j (R .holds j (omega arith) k);
+        holds = λ j l k. holds-marked (atom-mark line) (fits-mark line) j (R .holds j (omega arith) k);
       }
 
       -- it has
@@ -170,7 +177,7 @@ module _ (n : ℕ) (t x : List ℕ) (i at : ℕ) (R : Reading t x i at) where
           other k u = number-with-other marked-index (i + 1) (e + 1) k u
 
           earlier : (j : ℕ) → j < i → j < indexed-lines → Holds t (with-number marked-index (i + 1) (e + 1)) j
-          earlier j u k = holds-still t marked-index (with-number marked-index (i + 1) (e + 1)) j (other j (λ q. omega arith)) (other (j + 1) (λ q. omega arith)) (holds-marked j (R .holds j u k))
+          earlier j u k = holds-still t marked-index (with-number marked-index (i + 1) (e + 1)) j (other j (λ q. omega arith)) (other (j + 1) (λ q. omega arith)) (holds-marked (atom-mark line) (fits-mark line) j (R .holds j u k))
 
           from : number-at (with-number marked-index (i + 1) (e + 1)) i ≡ at
           from = other i (λ q. omega arith) ∙ number-with-mark x (atom-mark line) (fits-mark line) i ∙ R .begins (omega arith)

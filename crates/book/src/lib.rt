@@ -5,11 +5,12 @@ ghost use mathlib.Core.Bool.{true, not, _&&_};
 ghost use mathlib.Core.List.{[]};
 ghost use Prim.Native.Nat.{_≤_, _<_};
 ghost use lib.Dec.{leb};
-ghost use lib.ListN.{length, getD};
+ghost use lib.ListN.{length, getD, take};
 ghost use Rattle.tokens.specs.Reserved.{among};
 ghost use Rattle.book_index.specs.Layout.{index-size, hint-count, with-mark};
 ghost use Rattle.book.specs.Book.{longest-atom, lines, fit, node-atoms, group-atoms-of, place-of};
-ghost use Rattle.book.specs.Index.{indexed-lines, atom-mark, Marked, Noted, Indexed};
+ghost use Rattle.book.specs.Index.{indexed-lines, atom-mark, Holds, Places, Noted, Indexed};
+ghost use Rattle.book.specs.Reading.{Reading};
 use book_index::HINTS;
 use book_index::MARKS;
 
@@ -78,10 +79,37 @@ fn is_atom(size: usize) -> bool
     size <= LONGEST_ATOM
 }
 
-// Whether an atom is none of the lines passed, of which there are `count` and each has its mark; it gets its own.
-fn is_new(passed: &[u8], count: usize, atom: &[u8], index: &mut [u8]) -> bool
-    requires { ⌜ (length (now index) ≡ index-size) × (length (lines (now passed)) ≡ count) × Marked (lines (now passed)) (now index) ⌝ }
-    ensures { λ r. ⌜ (r ≡ not (among (lines (now (passed .entry))) (now (atom .entry)))) × (now (index .exit) ≡ with-mark (now (index .entry)) (atom-mark (now (atom .entry)))) ⌝ }
+// Line j of a book, by the places that the index has.
+fn noted<'a>(book: &'a [u8], index: &[u8], j: usize) -> &'a [u8]
+    requires { ⌜ (length (now index) ≡ index-size) × (j < indexed-lines) × Holds (now book) (now index) j ⌝ }
+    ensures { λ r. ⌜ now r ≡ getD (lines (now (book .entry))) j [] ⌝ }
+{
+    let from = book_index::number(index, j);
+    let next = book_index::number(index, j + 1);
+    let e = next - 1;
+    &book[from..e]
+}
+
+// Whether an atom is one of the first `count` lines of a book, by the places that the index has.
+fn among_first(book: &[u8], index: &[u8], count: usize, atom: &[u8]) -> bool
+    requires { ⌜ (length (now index) ≡ index-size) × (count ≤ indexed-lines) × (count ≤ length (lines (now book))) × Places count (now book) (now index) ⌝ }
+    ensures { λ r. ⌜ r ≡ among (take count (lines (now (book .entry)))) (now (atom .entry)) ⌝ }
+{
+    let mut j = 0;
+    while j < count {
+        if atoms::same(atom, noted(book, index, j)) {
+            return true;
+        }
+        j += 1;
+    }
+    false
+}
+
+// Whether an atom is none of the lines passed, of which there are `count` up to a place; it gets its mark. The rare search has
+// parts, as in `place`.
+fn is_new(book: &[u8], at: usize, count: usize, atom: &[u8], index: &mut [u8]) -> bool
+    requires { ⌜ Reading (now book) (now index) count at ⌝ }
+    ensures { λ r. ⌜ (r ≡ not (among (lines (take at (now (book .entry)))) (now (atom .entry)))) × (now (index .exit) ≡ with-mark (now (index .entry)) (atom-mark (now (atom .entry)))) ⌝ }
 {
     let mark = (atoms::mark_of(atom) % MARKS) as usize;
     let met = book_index::has_mark(index, mark);
@@ -89,7 +117,10 @@ fn is_new(passed: &[u8], count: usize, atom: &[u8], index: &mut [u8]) -> bool
     if !met {
         return true;
     }
-    count <= seek(passed, atom)
+    if count <= INDEXED_LINES {
+        return !among_first(book, index, count, atom);
+    }
+    count <= seek(&book[..at], &atom[0..])
 }
 
 // Whether a text is a book for n nodes. Where it is, the numbers of the index are those of the book.
@@ -109,7 +140,7 @@ fn read(book: &[u8], n: u32, index: &mut [u8]) -> bool
         if !is_atom(e - at) {
             return false;
         }
-        if !is_new(&book[..at], i, &book[at..e], index) {
+        if !is_new(book, at, i, &book[at..e], index) {
             return false;
         }
         i += 1;
@@ -144,17 +175,6 @@ fn least(a: usize, b: usize) -> usize
     if a < b { a } else { b }
 }
 
-// Line j of a book, by the places that the index has.
-fn noted<'a>(book: &'a [u8], n: u32, index: &[u8], j: usize) -> &'a [u8]
-    requires { ⌜ Noted n (now book) (now index) × (j < indexed-lines) × (j < length (lines (now book))) ⌝ }
-    ensures { λ r. ⌜ now r ≡ getD (lines (now (book .entry))) j [] ⌝ }
-{
-    let from = book_index::number(index, j);
-    let next = book_index::number(index, j + 1);
-    let e = next - 1;
-    &book[from..e]
-}
-
 // Writes a hint for each line whose place the index has.
 fn hint(book: &[u8], n: u32, index: &mut [u8])
     requires { ⌜ Noted n (now book) (now index) ⌝ }
@@ -165,7 +185,7 @@ fn hint(book: &[u8], n: u32, index: &mut [u8])
     book_index::clear(index);
     let mut j = 0;
     while j < last {
-        let slot = slot_of(noted(book, n, index, j));
+        let slot = slot_of(noted(book, index, j));
         let at = book_index::free(index, slot);
         j += 1;
         index[at] = j as u8;
@@ -197,7 +217,7 @@ fn hinted(book: &[u8], n: u32, index: &[u8], atom: &[u8]) -> usize
             return INDEXED_LINES;
         }
         let j = hint - 1;
-        if atoms::same(atom, noted(book, n, index, j)) {
+        if atoms::same(atom, noted(book, index, j)) {
             return j;
         }
         at = (at + 1) % HINTS;

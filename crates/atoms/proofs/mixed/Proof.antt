@@ -4,21 +4,18 @@ use Rattle.atoms.specs.Marks.{mixed}
 use Rattle.atoms.proofs.mixed.Statement.{statement}
 use Rattle.atoms.proofs.mixed.Tie as tie
 
-add-result : tie.Need-add-result
-add-result c = search needs
-
 mul-result : tie.Need-mul-result
 mul-result c = search needs
 
 mul-result-2 : tie.Need-mul-result-2
 mul-result-2 c = search needs
 
-add-result-2 : tie.Need-add-result-2
-add-result-2 c = search needs
+add-result : tie.Need-add-result
+add-result c = search needs
 
 returns : tie.Need-returns
 unfolding mixed
 returns c = search needs
 
 pub mixed-spec : {M : Type 1} → statement M
-mixed-spec = tie.close (tie.spec add-result mul-result mul-result-2 add-result-2 returns)
+mixed-spec = tie.close (tie.spec mul-result mul-result-2 add-result returns)

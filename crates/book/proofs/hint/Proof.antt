@@ -1,6 +1,6 @@
 -- `book::hint` meets its contract: the numbers stay, and each hint leads to a line. Assumes nothing.
 use borrow.Author.Needs.{needs}
-use Prim.Native.Nat.{_-_, _≤_}
+use Prim.Native.Nat.{_-_, _≤_, _<_}
 use native.Mathlib.Omega.{arith}
 use lib.ListN.{length}
 use Rattle.book.specs.Book.{lines}
@@ -38,7 +38,11 @@ loop-holds c =
     (omega (arith, m .least .ensures), omega (arith, m .least .ensures, m .before .number .ensures, line-count _ _ _ (a .pre)), rw (k .clear .ensures) (indexed-none _ _ _ (a .pre)))
 
 noted-requires : tie.Need-noted-requires Inv-loop μ-loop
-noted-requires c κs = let l = c .before .before .loop in (l .inv .2 .noted, omega (arith, l .inv), omega (arith, l .inv))
+noted-requires c κs =
+    let l = c .before .before .loop in
+    let N = l .inv .2 .noted in
+    let k : l .j < indexed-lines = omega (arith, l .inv) in
+    (N .size, k, N .holds (l .j) k (omega (arith, l .inv)))
 
 slot-of-requires : tie.Need-slot-of-requires Inv-loop μ-loop
 slot-of-requires c κs = search needs

@@ -37,7 +37,7 @@ noted-requires c κs =
     let l = c .before .before .before in
     let I = l .before .before .before .before .before .pre in
     let h = I .hints (l .loop .at) (l .loop .inv) in
-    (I .noted, omega (arith, h), omega (arith, h))
+    (I .noted .size, omega (arith, h), I .noted .holds _ (omega (arith, h)) (omega (arith, h)))
 
 same-requires : tie.Need-same-requires Inv-loop μ-loop
 same-requires c κs = search needs

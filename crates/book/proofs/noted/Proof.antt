@@ -16,31 +16,27 @@ number-requires-2 c κs = search needs
 sub-e : tie.Need-sub-e
 sub-e c =
     let a = c .before .before .before .before in
-    let H = a .pre .0 .holds (a .args .j) (a .pre .1) (a .pre .2) in
-    omega (arith, H .before, H .within, c .number2 .ensures, c .before .number .ensures)
+    omega (arith, a .pre .2 .before, a .pre .2 .within, c .number2 .ensures, c .before .number .ensures)
 
 sub-result : tie.Need-sub-result
 sub-result c =
     let a = c .before .before .before .before in
-    let H = a .pre .0 .holds (a .args .j) (a .pre .1) (a .pre .2) in
-    omega (arith, H .before, H .within, c .number2 .ensures, c .before .number .ensures)
+    omega (arith, a .pre .2 .before, a .pre .2 .within, c .number2 .ensures, c .before .number .ensures)
 
 part-result-start : tie.Need-part-result-start
 part-result-start c =
     let a = c .before .before .before .before in
-    let H = a .pre .0 .holds (a .args .j) (a .pre .1) (a .pre .2) in
-    omega (arith, H .before, H .within, c .number2 .ensures, c .before .number .ensures)
+    omega (arith, a .pre .2 .before, a .pre .2 .within, c .number2 .ensures, c .before .number .ensures)
 
 part-result-end : tie.Need-part-result-end
 part-result-end c =
     let a = c .before .before .before .before in
-    let H = a .pre .0 .holds (a .args .j) (a .pre .1) (a .pre .2) in
-    omega (arith, H .before, H .within, c .number2 .ensures, c .before .number .ensures)
+    omega (arith, a .pre .2 .before, a .pre .2 .within, c .number2 .ensures, c .before .number .ensures)
 
 returns : tie.Need-returns
 returns c =
     let a = c .before .before .before .before .before in
-    rw (c .before .number2 .ensures, c .before .before .number .ensures) (a .pre .0 .holds (a .args .j) (a .pre .1) (a .pre .2) .line-is)
+    rw (c .before .number2 .ensures, c .before .before .number .ensures) (a .pre .2 .line-is)
 
 pub noted-spec : {M : Type 1} → statement M
 noted-spec =

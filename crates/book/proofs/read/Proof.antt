@@ -7,7 +7,6 @@ use mathlib.Core.List.{List}
 use Prim.Native.Nat.{ℕ, _+_, _-_, _≤_, _<_}
 use native.Mathlib.Omega.{arith}
 use lib.ListN.{length, take, drop, length-drop}
-use lib.Seq.{length-take-le}
 use Rattle.text.specs.Text.{newline, find-in}
 use Rattle.text.specs.FieldLaws.{find-within, part-rest}
 use Rattle.book.specs.Book.{fit}
@@ -89,9 +88,6 @@ returns-2 c =
     let l = f .before .before .before in
     refused _ _ _ (no-atom _ _ _ _ _ (l .loop .inv) _ (line-end _ _ _ (f .find .ensures)) (c .before .before .if1 .left) (sym (c .before .is-atom .ensures) ∙ not-true _ (c .if2 .taken)))
 
-slice-aggregate-is-new : tie.Need-slice-aggregate-is-new Inv-loop μ-loop
-slice-aggregate-is-new c = sym (length-take-le _ _ (omega arith))
-
 sub-is-new : tie.Need-sub-is-new Inv-loop μ-loop
 sub-is-new c = search needs
 
@@ -102,9 +98,7 @@ part-is-new-end : tie.Need-part-is-new-end Inv-loop μ-loop
 part-is-new-end c = search needs
 
 is-new-requires : tie.Need-is-new-requires Inv-loop μ-loop
-is-new-requires c κs =
-    let R = c .before .before .before .before .before .before .before .before .before .loop .inv in
-    (R .size, R .passed .number, R .marked)
+is-new-requires c κs = c .before .before .before .before .before .before .before .before .loop .inv
 
 same-length-3 : tie.Need-same-length-3 Inv-loop μ-loop
 same-length-3 c = search needs
@@ -112,14 +106,14 @@ same-length-3 c = search needs
 returns-3 : tie.Need-returns-3 Inv-loop μ-loop
 returns-3 c =
     let w = c .before .before .before in
-    let f = w .before .before .before .before .before .before .before in
+    let f = w .before .before .before .before .before .before in
     let l = f .before .before .before in
-    refused _ _ _ (stands-twice _ _ _ _ _ (l .loop .inv) _ (line-end _ _ _ (f .find .ensures)) (w .before .before .before .before .before .before .if1 .left)
+    refused _ _ _ (stands-twice _ _ _ _ _ (l .loop .inv) _ (line-end _ _ _ (f .find .ensures)) (w .before .before .before .before .before .if1 .left)
     (not-false _ (sym (w .is-new .ensures .0) ∙ not-true _ (c .if3 .taken))))
 
 add-i : tie.Need-add-i Inv-loop μ-loop
 add-i c =
-    let l = c .before .before .before .before .before .before .before .before .before .before .before .before .before in
+    let l = c .before .before .before .before .before .before .before .before .before .before .before .before in
     omega (arith, count-within 0 _ _ _ _ (l .loop .inv))
 
 add-at : tie.Need-add-at Inv-loop μ-loop
@@ -128,7 +122,7 @@ add-at c = search needs
 put-number-requires-2 : tie.Need-put-number-requires-2 Inv-loop μ-loop
 put-number-requires-2 c κs =
     let w = c .before .before .before .before .before in
-    let m = w .before .before .before .before in
+    let m = w .before .before .before in
     let f = m .before .before .before in
     let l = f .before .before .before in
     let e = line-end _ _ _ (f .find .ensures) in
@@ -146,7 +140,7 @@ loop-again : tie.Need-loop-again Inv-loop μ-loop
 loop-again c =
     let p = c .before .before in
     let w = p .before .before .before .before .before .before in
-    let m = w .before .before .before .before in
+    let m = w .before .before .before in
     let f = m .before .before .before in
     let l = f .before .before .before in
     let e = line-end _ _ _ (f .find .ensures) in
@@ -160,7 +154,7 @@ loop-less-2 c = search needs
 loop-again-2 : tie.Need-loop-again-2 Inv-loop μ-loop
 loop-again-2 c =
     let w = c .before .before .before .before in
-    let m = w .before .before .before .before in
+    let m = w .before .before .before in
     let f = m .before .before .before in
     let l = f .before .before .before in
     let e = line-end _ _ _ (f .find .ensures) in
@@ -219,7 +213,6 @@ read-spec =
     is-atom-requires
     same-length-2
     returns-2
-    slice-aggregate-is-new
     sub-is-new
     part-is-new-start
     part-is-new-end

@@ -101,3 +101,7 @@ fronted t (Step.Stop p) = refused p
 abbrev pub read-as : List ℕ → Reading → Outcome
 read-as t (Reading.Whole g) = taken (groups t g)
 read-as t (Reading.Refused p) = refused p
+
+-- the rest of a file whose groups begin at g: where it is taken, they are those
+abbrev pub Rest-read : List ℕ → ℕ → Reading → Type 0
+Rest-read t g r = (from-groups t g ≡ read-as t r) × ((k : ℕ) → r ≡ Reading.Whole k → k ≡ g)

@@ -12,7 +12,7 @@ ghost use mathlib.Core.Bool.{true, cond};
 ghost use Prim.Native.Nat.{ℕ};
 ghost use Rattle.grammar.specs.File.{comma, sign, atom, key, first-pair, next-pair, value, taken, outcome};
 ghost use Rattle.walk.specs.Groups.{groups, pass-groups};
-ghost use Rattle.launch_file.specs.Reading.{own-pair, ending-at, from-groups, fronted, read-as, any-list, list-of, Pair-read, To-own, To-end};
+ghost use Rattle.launch_file.specs.Reading.{own-pair, ending-at, from-groups, fronted, read-as, Rest-read, any-list, list-of, Pair-read, To-own, To-end};
 
 // A pair of a list: the own one of that list, and the place behind the bracket of its entry; another one, and the place behind
 // it; the end of the list, and the place behind that; or the place where it stops.
@@ -155,8 +155,7 @@ pub fn front(text: &[u8]) -> Step
 
 // The rest of a file whose groups begin at g.
 pub fn rest(text: &[u8], g: usize) -> Reading
-    ensures onward { λ r. ⌜ from-groups (now (text .entry)) g ≡ read-as (now (text .entry)) r ⌝ }
-    ensures place { λ r. ⌜ ((k : ℕ) → r ≡ Reading.Whole k → k ≡ g) ⌝ }
+    ensures { λ r. ⌜ Rest-read (now (text .entry)) g r ⌝ }
 {
     match then_sign(text, walk::pass_groups(text, g), b'}') {
         Step::Stop(p) => Reading::Refused(p),

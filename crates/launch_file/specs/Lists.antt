@@ -20,7 +20,7 @@ use Rattle.walk.specs.declared.Step.{Step}
 use Rattle.walk.specs.declared.Step.the-variants as Step
 use Rattle.walk.specs.declared.Entry.{Entry}
 use Rattle.walk.specs.declared.Entry.the-variants as Entry
-use Rattle.launch_file.specs.Reading.{entered, left, entry-of, behind-list, paired, list-of, Pair-read, To-own, To-end, ending-to, ending-at, from-groups, fronted, read-as}
+use Rattle.launch_file.specs.Reading.{entered, left, behind-list, paired, list-of, Pair-read, To-own, To-end, ending-to, ending-at, from-groups, fronted, read-as}
 use Rattle.launch_file.specs.Pairs.{next-closed}
 use Rattle.launch_file.specs.declared.Pair.{Pair}
 use Rattle.launch_file.specs.declared.Pair.the-variants as Pair

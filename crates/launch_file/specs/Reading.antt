@@ -5,21 +5,27 @@ use mathlib.Core.List.{List, []}
 use Prim.Native.Nat.{ℕ}
 use lib.Dec.{ltb}
 use lib.ListN.{length}
-use Rattle.grammar.specs.File.{Level, file, kernel, Here, Phase, sign, first-pair, next-pair, first-group, full-stop, comma, open-list, close-tuple, ascii, own-key, Outcome, taken, refused}
+use Rattle.grammar.specs.File.{Group, Level, file, kernel, Here, Phase, sign, first-pair, next-pair, first-group, full-stop, comma, open-list, close-tuple, ascii, own-key, Outcome, taken, refused}
 use Rattle.grammar.specs.Steps.{from}
 use Rattle.walk.specs.Walk.{dark, sign-at, then-sign}
 use Rattle.walk.specs.Groups.{groups}
 use Rattle.walk.specs.Unfold.{ahead}
+use Rattle.walk.specs.Atoms.{passed}
 use Rattle.walk.specs.declared.Step.{Step}
 use Rattle.walk.specs.declared.Step.the-variants as Step
 use Rattle.launch_file.specs.declared.Pair.{Pair}
 use Rattle.launch_file.specs.declared.Pair.the-variants as Pair
-use Rattle.launch_file.specs.declared.Listing.{Listing}
-use Rattle.launch_file.specs.declared.Listing.the-variants as Listing
 use Rattle.launch_file.specs.declared.Reading.{Reading}
 use Rattle.launch_file.specs.declared.Reading.the-variants as Reading
 
 -- ---- pairs
+
+-- what is read where the own entry of a list is entered, and where the list is left
+abbrev pub entered : List Group → Here
+entered gs = record { level = kernel; found = false; groups = gs }
+
+abbrev pub left : List Group → Here
+left gs = record { level = file; found = true; groups = gs }
 
 -- where the entry of a list's own pair begins, and what comes behind the list
 abbrev pub entry-of : Level → Phase
@@ -32,9 +38,9 @@ behind-list kernel = sign close-tuple next-pair
 
 -- the rest of a text behind a pair, or its refusal
 abbrev pub paired : Here → List ℕ → Pair → Outcome
-paired h t (Pair.Own n) = from (record { level = kernel; found = false; groups = h .groups }) [] (entry-of (h .level)) t n
+paired h t (Pair.Own n) = from (entered (h .groups)) [] (entry-of (h .level)) t n
 paired h t (Pair.Other n) = from h [] next-pair t n
-paired h t (Pair.Closed n) = from (record { level = file; found = true; groups = h .groups }) [] (behind-list (h .level)) t n
+paired h t (Pair.Closed n) = from (left (h .groups)) [] (behind-list (h .level)) t n
 paired h t (Pair.Stop p) = refused p
 
 -- what is read lies ahead; the own pair stands once, and the list ends behind it alone
@@ -66,19 +72,12 @@ own-pair t at end found = cond found (Pair.Stop end) (own-to (then-sign t (sign-
 
 -- ---- lists of pairs
 
--- the rest of a text behind the list, whose groups are read, or its refusal
-abbrev pub ended : Level → List ℕ → Listing → Outcome
-ended l t (Listing.Ended n g) = from (record { level = file; found = true; groups = groups t g }) [] (behind-list l) t n
-ended l t (Listing.Stop p) = refused p
+-- in every list with this own key: from behind its bracket to behind the bracket of its own entry, and from behind its own pair to behind the list
+abbrev pub To-own : List ℕ → List ℕ → ℕ → Step → Type 0
+To-own own t at r = (h : Here) → list-of own false h → from h [] first-pair t at ≡ passed (entered (h .groups)) (entry-of (h .level)) t r
 
-abbrev pub list-on : List ℕ → ℕ → Listing → Type 0
-list-on t at (Listing.Ended n g) = ahead t at n
-list-on t at (Listing.Stop p) = Unit {0}
-
--- before it no groups are read, and behind it the text goes on
-pub record List-read (l : Level) (t : List ℕ) (at : ℕ) (r : Listing) : Type 0 where
-  pub goes-on : from (record { level = l; found = false; groups = [] }) [] first-pair t at ≡ ended l t r
-  pub on : list-on t at r
+abbrev pub To-end : List ℕ → List ℕ → ℕ → Step → Type 0
+To-end own t at r = (h : Here) → list-of own true h → from h [] next-pair t at ≡ passed (left (h .groups)) (behind-list (h .level)) t r
 
 -- ---- a whole file
 
@@ -90,7 +89,19 @@ ending-to t g (Step.Stop p) = Reading.Refused p
 unfoldable pub ending-at : List ℕ → ℕ → ℕ → Reading
 ending-at t at g = ending-to t g (sign-at t at 46)
 
+-- the outcome of a file whose groups begin at a place, or that is refused in front of them
+abbrev pub from-groups : List ℕ → ℕ → Outcome
+from-groups t g = from (entered []) [] first-group t g
+
+abbrev pub fronted : List ℕ → Step → Outcome
+fronted t (Step.Past g) = from-groups t g
+fronted t (Step.Stop p) = refused p
+
 -- a file with the groups of the walk from a place on, or refused at a place
 abbrev pub read-as : List ℕ → Reading → Outcome
 read-as t (Reading.Whole g) = taken (groups t g)
 read-as t (Reading.Refused p) = refused p
+
+-- the rest of a file whose groups begin at g: where it is taken, they are those
+abbrev pub Rest-read : List ℕ → ℕ → Reading → Type 0
+Rest-read t g r = (from-groups t g ≡ read-as t r) × ((k : ℕ) → r ≡ Reading.Whole k → k ≡ g)

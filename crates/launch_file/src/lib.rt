@@ -8,9 +8,11 @@ use walk::entry_at;
 use walk::sign_at;
 use walk::then_sign;
 ghost use mathlib.Core.Path.{_≡_};
-ghost use mathlib.Core.Bool.{cond};
-ghost use Rattle.grammar.specs.File.{comma, file, kernel, sign, atom, key, first-pair, next-pair, value, outcome};
-ghost use Rattle.launch_file.specs.Reading.{own-pair, ending-at, read-as, any-list, list-of, Pair-read, List-read};
+ghost use mathlib.Core.Bool.{true, cond};
+ghost use Prim.Native.Nat.{ℕ};
+ghost use Rattle.grammar.specs.File.{comma, sign, atom, key, first-pair, next-pair, value, taken, outcome};
+ghost use Rattle.walk.specs.Groups.{groups, pass-groups};
+ghost use Rattle.launch_file.specs.Reading.{own-pair, ending-at, from-groups, fronted, read-as, Rest-read, any-list, list-of, Pair-read, To-own, To-end};
 
 // A pair of a list: the own one of that list, and the place behind the bracket of its entry; another one, and the place behind
 // it; the end of the list, and the place behind that; or the place where it stops.
@@ -18,12 +20,6 @@ enum Pair {
     Own(usize),
     Other(usize),
     Closed(usize),
-    Stop(usize),
-}
-
-// A list of pairs: the place behind it, and the place behind the bracket of the groups in it; or the place where it stops.
-enum Listing {
-    Ended(usize, usize),
     Stop(usize),
 }
 
@@ -94,63 +90,36 @@ fn next_pair(text: &[u8], at: usize, begun: bool, own: &[u8], found: bool) -> Pa
     }
 }
 
-// The pairs of the kernel entry, from behind its bracket.
-fn kernel_list(text: &[u8], at: usize) -> Listing
-    ensures { λ r. ⌜ List-read kernel (now (text .entry)) at r ⌝ }
+// From behind the bracket of a list with this own key: the place behind the bracket of its own entry, or where it stops.
+fn to_own(text: &[u8], at: usize, own: &[u8]) -> Step
+    ensures { λ r. ⌜ To-own (now (own .entry)) (now (text .entry)) at r ⌝ }
 {
     let mut j = at;
     let mut begun = false;
-    let mut found = false;
-    let mut g = at;
     loop {
-        match next_pair(text, j, begun, b"s_groups", found) {
-            Pair::Stop(p) => return Listing::Stop(p),
-            Pair::Closed(n) => return Listing::Ended(n, g),
+        match next_pair(text, j, begun, own, false) {
+            Pair::Stop(p) => return Step::Stop(p),
+            Pair::Closed(n) => return Step::Stop(n),
+            Pair::Own(n) => return Step::Past(n),
             Pair::Other(n) => {
                 j = n;
                 begun = true;
             }
-            Pair::Own(n) => match then_sign(text, walk::pass_groups(text, n), b'}') {
-                Step::Stop(p) => return Listing::Stop(p),
-                Step::Past(m) => {
-                    j = m;
-                    begun = true;
-                    found = true;
-                    g = n;
-                }
-            },
         }
     }
 }
 
-// The pairs of the file, from behind its bracket.
-fn file_list(text: &[u8], at: usize) -> Listing
-    ensures { λ r. ⌜ List-read file (now (text .entry)) at r ⌝ }
+// From behind the own pair of a list with this own key: the place behind the list, or where it stops.
+fn to_end(text: &[u8], at: usize, own: &[u8]) -> Step
+    ensures { λ r. ⌜ To-end (now (own .entry)) (now (text .entry)) at r ⌝ }
 {
     let mut j = at;
-    let mut begun = false;
-    let mut found = false;
-    let mut g = at;
     loop {
-        match next_pair(text, j, begun, b"kernel", found) {
-            Pair::Stop(p) => return Listing::Stop(p),
-            Pair::Closed(n) => return Listing::Ended(n, g),
-            Pair::Other(n) => {
-                j = n;
-                begun = true;
-            }
-            Pair::Own(n) => match kernel_list(text, n) {
-                Listing::Stop(p) => return Listing::Stop(p),
-                Listing::Ended(e, k) => match sign_at(text, e, b'}') {
-                    Step::Stop(p) => return Listing::Stop(p),
-                    Step::Past(m) => {
-                        j = m;
-                        begun = true;
-                        found = true;
-                        g = k;
-                    }
-                },
-            },
+        match next_pair(text, j, true, own, true) {
+            Pair::Stop(p) => return Step::Stop(p),
+            Pair::Own(n) => return Step::Stop(n),
+            Pair::Closed(n) => return Step::Past(n),
+            Pair::Other(n) => j = n,
         }
     }
 }
@@ -171,15 +140,53 @@ fn ending(text: &[u8], at: usize, g: usize) -> Reading
     }
 }
 
+// The front of a file: the place behind the bracket of its groups, or where it is refused.
+pub fn front(text: &[u8]) -> Step
+    ensures { λ r. ⌜ outcome (now (text .entry)) ≡ fronted (now (text .entry)) r ⌝ }
+{
+    match sign_at(text, 0, b'[') {
+        Step::Stop(p) => Step::Stop(p),
+        Step::Past(n) => match to_own(text, n, b"kernel") {
+            Step::Stop(p) => Step::Stop(p),
+            Step::Past(m) => to_own(text, m, b"s_groups"),
+        },
+    }
+}
+
+// The rest of a file whose groups begin at g.
+pub fn rest(text: &[u8], g: usize) -> Reading
+    ensures { λ r. ⌜ Rest-read (now (text .entry)) g r ⌝ }
+{
+    match then_sign(text, walk::pass_groups(text, g), b'}') {
+        Step::Stop(p) => Reading::Refused(p),
+        Step::Past(n) => match then_sign(text, to_end(text, n, b"s_groups"), b'}') {
+            Step::Stop(p) => Reading::Refused(p),
+            Step::Past(m) => match to_end(text, m, b"kernel") {
+                Step::Stop(p) => Reading::Refused(p),
+                Step::Past(i) => ending(text, i, g),
+            },
+        },
+    }
+}
+
+// Whether a file ends at once behind its groups, whose list ends at a place.
+pub fn ends(text: &[u8], at: usize) -> bool
+    ensures { λ r. ⌜ ((g : ℕ) → pass-groups (now (text .entry)) g ≡ Step.Past at → r ≡ true → from-groups (now (text .entry)) g ≡ taken (groups (now (text .entry)) g)) ⌝ }
+{
+    let entry = then_sign(text, sign_at(text, at, b'}'), b']');
+    let whole = then_sign(text, then_sign(text, entry, b'}'), b']');
+    match then_sign(text, whole, b'.') {
+        Step::Stop(_) => false,
+        Step::Past(n) => text.len() <= past_white(text, n),
+    }
+}
+
 // Whether a text is a launch file, and where its groups stand.
 pub fn read(text: &[u8]) -> Reading
     ensures { λ r. ⌜ outcome (now (text .entry)) ≡ read-as (now (text .entry)) r ⌝ }
 {
-    match sign_at(text, 0, b'[') {
+    match front(text) {
         Step::Stop(p) => Reading::Refused(p),
-        Step::Past(n) => match file_list(text, n) {
-            Listing::Stop(p) => Reading::Refused(p),
-            Listing::Ended(e, g) => ending(text, e, g),
-        },
+        Step::Past(g) => rest(text, g),
     }
 }

@@ -2,9 +2,10 @@
 // over such a struct, so each is thin, takes the struct apart for a covered function, and is proved by hand.
 ghost use mathlib.Core.Path.{_≡_};
 ghost use Rattle.grammar.specs.File.{outcome};
-ghost use Rattle.launch_file.specs.Reading.{read-as};
+ghost use Rattle.launch_file.specs.Reading.{fronted, read-as, Rest-read};
 ghost use Rattle.position.specs.Position.{line-of, column-of};
 use launch_file::Reading;
+use walk::Step;
 
 pub struct Reader<'a> {
     pub text: &'a [u8],
@@ -46,11 +47,39 @@ pub fn read<'a>(r: Reader<'a>) -> Reading
     launch_file::read(r.text)
 }
 
+// Reads up to the groups: the place behind their bracket, or where the file is refused.
+pub fn front<'a>(r: Reader<'a>) -> Step
+    ensures { λ f. ⌜ outcome (now (r .entry .text)) ≡ fronted (now (r .entry .text)) f ⌝ }
+{
+    launch_file::front(r.text)
+}
+
+// Reads on from the place, which is behind the bracket of the groups.
+pub fn rest<'a>(r: Reader<'a>) -> Reading
+    ensures { λ f. ⌜ Rest-read (now (r .entry .text)) (r .entry .at) f ⌝ }
+{
+    launch_file::rest(r.text, r.at)
+}
+
 // Reads a text as a launch file.
 pub fn read_file(text: &[u8]) -> Reading
     ensures { λ f. ⌜ outcome (now (text .entry)) ≡ read-as (now (text .entry)) f ⌝ }
 {
     read(new(text))
+}
+
+// Reads a text up to its groups.
+pub fn front_of(text: &[u8]) -> Step
+    ensures { λ f. ⌜ outcome (now (text .entry)) ≡ fronted (now (text .entry)) f ⌝ }
+{
+    front(new(text))
+}
+
+// Reads a text on from its groups, which begin at a place.
+pub fn rest_of(text: &[u8], at: usize) -> Reading
+    ensures { λ f. ⌜ Rest-read (now (text .entry)) at f ⌝ }
+{
+    rest(moved(new(text), at))
 }
 
 // The line of a place of a text.

@@ -18,6 +18,26 @@ use Rattle.book.specs.Hinting.{fit-distinct, fit-enough}
 unfoldable pub number-in : ℕ → List ℕ → List ℕ → ℕ
 number-in n t a = cond (among (group-atoms-of n t) a) (suc (place-of a (group-atoms-of n t))) 0
 
+-- ---- what a number says
+
+module _ (n : ℕ) (t a : List ℕ) where
+  pub number-none : number-in n t a ≡ 0 → among (group-atoms-of n t) a ≡ false
+  unfolding number-in
+  number-none h = go (among (group-atoms-of n t) a) h
+    where
+      go : (b : Bool) → cond b (suc (place-of a (group-atoms-of n t))) 0 ≡ 0 → b ≡ false
+      go true h = absurd (omega arith)
+      go false h = refl
+
+  pub number-some : (number-in n t a ≡ 0 → ⊥) → (among (group-atoms-of n t) a ≡ true) × (number-in n t a ≡ suc (place-of a (group-atoms-of n t)))
+  unfolding number-in
+  number-some h = go (among (group-atoms-of n t) a) h
+    where
+      go : (b : Bool) → (cond b (suc (place-of a (group-atoms-of n t))) 0 ≡ 0 → ⊥)
+          → (b ≡ true) × (cond b (suc (place-of a (group-atoms-of n t))) 0 ≡ suc (place-of a (group-atoms-of n t)))
+      go true h = (refl, refl)
+      go false h = absurd (h refl)
+
 -- ---- the lines of a book have bytes
 
 both : (a b : Bool) → (a && b) ≡ true → (a ≡ true) × (b ≡ true)

@@ -5,16 +5,14 @@ use walk::Node;
 use walk::Step;
 use walk::node_at;
 ghost use mathlib.Core.Path.{_≡_};
-ghost use mathlib.Core.Bool.{true, not, _||_};
+ghost use mathlib.Core.Bool.{not, _||_};
 ghost use lib.ListN.{take};
 ghost use Rattle.tokens.specs.Reserved.{same, among};
 ghost use Rattle.walk.specs.Walk.{part};
 ghost use Rattle.walk.specs.Groups.{nodes, groups};
 ghost use Rattle.walk.specs.Unfold.{inside};
 ghost use Rattle.duplicates.specs.Duplicates.{covered, equal-nodes, agreed, named, made, torn, clash};
-ghost use Rattle.duplicates.specs.Names.{apart};
 ghost use Rattle.duplicates.specs.Next.{next-group};
-ghost use Rattle.duplicates.specs.Stored.{stored};
 
 // The next group of the list: where its name begins and ends, the place of its first node, and the place behind it; or no group is left.
 pub enum Found {
@@ -154,28 +152,20 @@ fn named_among(text: &[u8], g: usize, count: usize, name: &[u8]) -> bool
     false
 }
 
-// Whether a group with a name and the nodes at a place, behind the first so many, is made. lone: it is, since no two groups have one name.
-pub fn made(text: &[u8], g: usize, lone: bool, count: usize, name: &[u8], at: usize) -> bool
-    requires { ⌜ (lone ≡ true → made (groups (now text) g) (take count (groups (now text) g)) (now name) (nodes (now text) at) ≡ true) ⌝ }
+// Whether a group with a name and the nodes at a place, behind the first so many, is made.
+pub fn made(text: &[u8], g: usize, count: usize, name: &[u8], at: usize) -> bool
     ensures { λ r. ⌜ r ≡ made (groups (now (text .entry)) g) (take count (groups (now (text .entry)) g)) (now (name .entry)) (nodes (now (text .entry)) at) ⌝ }
 {
-    if lone {
-        return true;
-    }
     if !agreed(text, g, name, at) {
         return false;
     }
     !named_among(text, g, count, name)
 }
 
-// Whether a node is in a group whose namesakes do not agree. lone: there is none, since no two groups have one name.
-pub fn clashes(text: &[u8], g: usize, lone: bool, node: &[u8]) -> bool
-    requires { ⌜ (lone ≡ true → apart (groups (now text) g) ≡ true) ⌝ }
+// Whether a node is in a group whose namesakes do not agree.
+pub fn clashes(text: &[u8], g: usize, node: &[u8]) -> bool
     ensures { λ r. ⌜ r ≡ clash (groups (now (text .entry)) g) (now (node .entry)) ⌝ }
 {
-    if lone {
-        return false;
-    }
     let mut j = g;
     let mut begun = false;
     loop {
@@ -188,51 +178,6 @@ pub fn clashes(text: &[u8], g: usize, lone: bool, node: &[u8]) -> bool
                 begun = true;
             }
             Found::End => return false,
-        }
-    }
-}
-
-// How many groups the quick test takes.
-const MARKS: usize = 32;
-
-// Whether a mark is one of these.
-fn stored(marks: &[u64], mark: u64) -> bool
-    ensures { λ r. ⌜ r ≡ stored mark (now (marks .entry)) ⌝ }
-{
-    let mut i = 0;
-    while i < marks.len() {
-        if marks[i] == mark {
-            return true;
-        }
-        i += 1;
-    }
-    false
-}
-
-// A quick test that no two groups have one name: it may say no of a list of which that is so.
-pub fn apart(text: &[u8], g: usize) -> bool
-    ensures { λ r. ⌜ (r ≡ true → apart (groups (now (text .entry)) g) ≡ true) ⌝ }
-{
-    let mut marks = [0u64; MARKS];
-    let mut count = 0;
-    let mut j = g;
-    let mut begun = false;
-    loop {
-        match next_group(text, j, begun) {
-            Found::Group(s, e, _, n) => {
-                if count == MARKS {
-                    return false;
-                }
-                let mark = atoms::mark_of(&text[s..e]);
-                if stored(&marks[..count], mark) {
-                    return false;
-                }
-                marks[count] = mark;
-                count += 1;
-                j = n;
-                begun = true;
-            }
-            Found::End => return true,
         }
     }
 }

@@ -3,7 +3,6 @@ use mathlib.Core.Path.{_≡_, refl, sym, _∙_}
 use mathlib.Core.Bool.{Bool, true, false, cond}
 use mathlib.Core.List.{List, [], _∷_}
 use Prim.Native.Nat.{ℕ, suc, _+_, _*_, _≤_, _<_}
-use native.Mathlib.Numerals.{add-one}
 use borrow.Author.Tests.{lt-ltb, le-ltb}
 use lib.Dec.{ltb}
 use lib.ListN.{length, set}
@@ -12,9 +11,10 @@ use Rattle.nodes.specs.Sets.{with-node}
 use Rattle.semantics.specs.Sizes.{group-limit}
 use Rattle.tokens.specs.Reserved.{among}
 use Rattle.grammar.specs.File.{Group}
-use Rattle.book.specs.Book.{lines, fit, place-of, node-atoms, group-atoms-of}
+use Rattle.book.specs.Book.{lines, fit, place-of, node-atoms}
 use Rattle.book.specs.PlaceLaws.{place-among}
 use Rattle.book.specs.Hinting.{fit-enough}
+use Rattle.plain_book.specs.Numbers.{number-in, number-none, number-some}
 use Rattle.duplicates.specs.Duplicates.{covered}
 use Rattle.plan.specs.Plan.{number-of, set-with, set-of, listed}
 use Rattle.plan.specs.declared.Members.{Members}
@@ -70,21 +70,21 @@ abbrev pub entry : ℕ → Members → Entered
 entry number (Members.Are s) = Entered.Group number s
 entry number Members.Unknown = Entered.Unknown
 
-module _ (N : ℕ) (book w : List ℕ) (ws : List (List ℕ)) (i : ℕ) (at : i ≡ place-of w (group-atoms-of N book)) (many : ℕ) (count : many ≡ length (group-atoms-of N book)) where
-  there : among (group-atoms-of N book) w ≡ ltb i many
-  there = sym (place-among w (group-atoms-of N book)) ∙ rw (at, count)
-
+module _ (N : ℕ) (book w : List ℕ) (ws : List (List ℕ)) (i : ℕ) (at : i ≡ number-in N book w) where
   -- its name is not in the book
-  pub entered-missed : many ≤ i → entered N book w ws ≡ Entered.Unknown
+  pub entered-missed : i ≡ 0 → entered N book w ws ≡ Entered.Unknown
   unfolding entered
-  entered-missed h = rw (there, le-ltb i many h)
+  entered-missed h = rw (number-none N book w (sym at ∙ h))
 
   -- it is
-  pub entered-found : i < many → (x : Members) → x ≡ members (node-atoms N book) 0 ws → entered N book w ws ≡ entry (i + 1) x
+  pub entered-found : (i ≡ 0 → ⊥) → (x : Members) → x ≡ members (node-atoms N book) 0 ws → entered N book w ws ≡ entry i x
   unfolding entered members
-  entered-found h x e = rw (e, there, lt-ltb i many h, ← at, add-one) (go (covered ws (node-atoms N book)) (set-with (node-atoms N book) 0 ws))
+  entered-found h x e =
+      let p = number-some N book w (λ z. h (at ∙ z)) in
+      rw (e, p .0, at ∙ p .1) (go (covered ws (node-atoms N book)) (set-with (node-atoms N book) 0 ws))
     where
-      go : (c : Bool) (s : ℕ) → cond c (Entered.Group (suc i) s) Entered.Unknown ≡ entry (suc i) (cond c (Members.Are s) Members.Unknown)
+      go : (c : Bool) (s : ℕ) → cond c (Entered.Group (number-of N book (record { name = w; nodes = ws })) s) Entered.Unknown
+          ≡ entry (number-of N book (record { name = w; nodes = ws })) (cond c (Members.Are s) Members.Unknown)
       go true s = refl
       go false s = refl
 

@@ -11,7 +11,6 @@ use lib.Seq.{take-at, take-suc-set}
 use Rattle.semantics.specs.Sizes.{group-limit}
 use Rattle.grammar.specs.File.{Group}
 use Rattle.duplicates.specs.Duplicates.{made, kept-of, kept}
-use Rattle.duplicates.specs.Names.{apart, apart-made}
 use Rattle.plan.specs.Plan.{number-of, set-of, listed, all-listed, plan-words, fitting}
 use Rattle.plan.specs.Looked.{put}
 use Rattle.plan.specs.declared.Plan.the-variants.{Unknown, TooMany, Fits}
@@ -90,10 +89,6 @@ module _ (N : ℕ) (book : List ℕ) (all : List Group) where
 
       more : length (T .passed ++ (g ∷ [])) ≡ count + 1
       more = length-append (T .passed) (g ∷ []) ∙ omega (arith, T .counted)
-
-      -- where no two have one name, the next is made
-      pub taken-alone : apart all ≡ true → made all (take count all) (g .name) (g .nodes) ≡ true
-      taken-alone h = rw firsts (apart-made all (T .passed) g gs h split)
 
       module _ (b : Bool) (m : b ≡ made all (take count all) (g .name) (g .nodes)) where
         here : made all (T .passed) (g .name) (g .nodes) ≡ b

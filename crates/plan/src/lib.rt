@@ -7,10 +7,8 @@ ghost use Prim.Native.Nat.{ℕ, _*_};
 ghost use lib.ListN.{length, take};
 ghost use Rattle.semantics.specs.Sizes.{group-limit};
 ghost use Rattle.walk.specs.Groups.{nodes, groups};
-ghost use Rattle.book.specs.Book.{node-atoms};
-ghost use Rattle.book.specs.Index.{Indexed};
+ghost use Rattle.book.specs.Book.{fit, node-atoms};
 ghost use Rattle.duplicates.specs.Duplicates.{kept};
-ghost use Rattle.duplicates.specs.Names.{apart};
 ghost use Rattle.plan.specs.Plan.{plan-words, fitting, verdict};
 ghost use Rattle.plan.specs.Looked.{members, entered, put};
 
@@ -37,8 +35,8 @@ enum Entered {
 }
 
 // The nodes at a place, by the book.
-fn members_at(text: &[u8], at: usize, book: &[u8], n: u32, index: &[u8]) -> Members
-    requires { ⌜ Indexed n (now book) (now index) ⌝ }
+fn members_at(text: &[u8], at: usize, book: &[u8], n: u32) -> Members
+    requires { ⌜ fit n (now book) ≡ true ⌝ }
     ensures { λ r. ⌜ r ≡ members (node-atoms n (now (book .entry))) 0 (nodes (now (text .entry)) at) ⌝ }
 {
     let mut set: u64 = 0;
@@ -46,7 +44,7 @@ fn members_at(text: &[u8], at: usize, book: &[u8], n: u32, index: &[u8]) -> Memb
     loop {
         match walk::node_at(text, j) {
             Node::More(s, e, next) => {
-                let i = book::node_of(book, n, index, &text[s..e]);
+                let i = plain_book::node_in(book, n, &text[s..e]);
                 if n <= i {
                     return Members::Unknown;
                 }
@@ -54,7 +52,7 @@ fn members_at(text: &[u8], at: usize, book: &[u8], n: u32, index: &[u8]) -> Memb
                 j = next;
             }
             Node::Last(s, e, _) => {
-                let i = book::node_of(book, n, index, &text[s..e]);
+                let i = plain_book::node_in(book, n, &text[s..e]);
                 if n <= i {
                     return Members::Unknown;
                 }
@@ -66,19 +64,16 @@ fn members_at(text: &[u8], at: usize, book: &[u8], n: u32, index: &[u8]) -> Memb
 }
 
 // A group with a name and the nodes at a place, by the book.
-fn enter(text: &[u8], name: &[u8], at: usize, book: &[u8], n: u32, index: &[u8]) -> Entered
-    requires { ⌜ Indexed n (now book) (now index) ⌝ }
+fn enter(text: &[u8], name: &[u8], at: usize, book: &[u8], n: u32) -> Entered
+    requires { ⌜ fit n (now book) ≡ true ⌝ }
     ensures { λ r. ⌜ r ≡ entered n (now (book .entry)) (now (name .entry)) (nodes (now (text .entry)) at) ⌝ }
 {
-    let i = book::group_of(book, n, index, name);
-    if book::group_count(book, n, index) <= i {
+    let number = plain_book::group_in(book, n, name);
+    if number == 0 {
         return Entered::Unknown;
     }
-    match members_at(text, at, book, n, index) {
-        Members::Are(set) => {
-            let number = i as u64 + 1;
-            Entered::Group(number, set)
-        }
+    match members_at(text, at, book, n) {
+        Members::Are(set) => Entered::Group(number, set),
         Members::Unknown => Entered::Unknown,
     }
 }
@@ -97,17 +92,8 @@ fn put(words: &mut [u64], k: usize, number: u64, set: u64)
 }
 
 // The plan where no node clashes.
-fn fitted(
-    text: &[u8],
-    g: usize,
-    lone: bool,
-    book: &[u8],
-    n: u32,
-    index: &[u8],
-    words: &mut [u64],
-) -> Plan
-    requires { ⌜ (lone ≡ true → apart (groups (now text) g) ≡ true) ⌝ }
-    requires { ⌜ Indexed n (now book) (now index) ⌝ }
+fn fitted(text: &[u8], g: usize, book: &[u8], n: u32, words: &mut [u64]) -> Plan
+    requires { ⌜ fit n (now book) ≡ true ⌝ }
     requires { ⌜ length (now words) ≡ 2 * group-limit ⌝ }
     ensures { λ r. ⌜ r ≡ fitting n (now (book .entry)) (kept (groups (now (text .entry)) g)) ⌝ }
     ensures { λ r. ⌜ ((k : ℕ) → r ≡ Plan.Fits k → take (2 * k) (now (words .exit)) ≡ plan-words n (now (book .entry)) (kept (groups (now (text .entry)) g))) ⌝ }
@@ -119,8 +105,8 @@ fn fitted(
     loop {
         match duplicates::next_group(text, j, begun) {
             Found::Group(s, e, m, next) => {
-                if duplicates::made(text, g, lone, count, &text[s..e], m) {
-                    match enter(text, &text[s..e], m, book, n, index) {
+                if duplicates::made(text, g, count, &text[s..e], m) {
+                    match enter(text, &text[s..e], m, book, n) {
                         Entered::Group(number, set) => {
                             put(words, k, number, set);
                             k += 1;
@@ -144,23 +130,14 @@ fn fitted(
 
 // What is to be made of the groups of the list whose bracket stands in front of g, by a book for n nodes, from the starting node on. Where they fit, the first
 // words have a number and a set for each.
-pub fn plan_of(
-    text: &[u8],
-    g: usize,
-    book: &[u8],
-    n: u32,
-    index: &[u8],
-    start: u32,
-    words: &mut [u64],
-) -> Plan
-    requires { ⌜ Indexed n (now book) (now index) ⌝ }
+pub fn plan_of(text: &[u8], g: usize, book: &[u8], n: u32, start: u32, words: &mut [u64]) -> Plan
+    requires { ⌜ fit n (now book) ≡ true ⌝ }
     requires { ⌜ length (now words) ≡ 2 * group-limit ⌝ }
     ensures { λ r. ⌜ r ≡ verdict n (now (book .entry)) start (groups (now (text .entry)) g) ⌝ }
     ensures { λ r. ⌜ ((k : ℕ) → r ≡ Plan.Fits k → take (2 * k) (now (words .exit)) ≡ plan-words n (now (book .entry)) (kept (groups (now (text .entry)) g))) ⌝ }
 {
-    let lone = duplicates::apart(text, g);
-    if duplicates::clashes(text, g, lone, book::line(book, start as usize)) {
+    if duplicates::clashes(text, g, book::line(book, start as usize)) {
         return Plan::Clash;
     }
-    fitted(text, g, lone, book, n, index, words)
+    fitted(text, g, book, n, words)
 }

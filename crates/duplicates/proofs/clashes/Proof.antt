@@ -9,16 +9,15 @@ use lib.ListN.{length}
 use Rattle.grammar.specs.File.{Group}
 use Rattle.walk.specs.Groups.{groups, groups-from}
 use Rattle.duplicates.specs.Duplicates.{torn, clashing, clash}
-use Rattle.duplicates.specs.Names.{apart-clash}
 use Rattle.duplicates.specs.Next.{group-found}
 use Rattle.duplicates.proofs.clashes.Statement.{statement}
 use Rattle.duplicates.proofs.clashes.Tie as tie
 
 abbrev Inv-loop : tie.InvT-loop
-Inv-loop text g lone node j₀ begun₀ j begun = clash (groups text g) node ≡ clashing (groups text g) (groups-from text j begun) node
+Inv-loop text g node j₀ begun₀ j begun = clash (groups text g) node ≡ clashing (groups text g) (groups-from text j begun) node
 
 abbrev μ-loop : tie.MeasureT-loop
-μ-loop text g lone node j₀ begun₀ j begun = length text - j
+μ-loop text g node j₀ begun₀ j begun = length text - j
 
 module _ (all gs : List Group) (g : Group) (ks : List Group) (v : List ℕ) (is : gs ≡ g ∷ ks) where
   -- it clashes in the first
@@ -32,11 +31,6 @@ module _ (all gs : List Group) (g : Group) (ks : List Group) (v : List ℕ) (is 
 -- none is left
 ended : (all gs : List Group) (v : List ℕ) → gs ≡ [] → clashing all gs v ≡ false
 ended all gs v is = rw is
-
-returns : tie.Need-returns Inv-loop μ-loop
-returns c =
-    let s = c .before .before .before .args in
-    sym (apart-clash (groups (s .text .now) (s .g)) (s .node .now) (c .before .before .before .pre (c .if1 .taken)))
 
 loop-holds : tie.Need-loop-holds Inv-loop μ-loop
 loop-holds c = search needs
@@ -59,11 +53,11 @@ part-torn-end c = group-found _ _ _ _ (sym (c .before .s .given .1) ∙ c .befor
 torn-requires : tie.Need-torn-requires Inv-loop μ-loop
 torn-requires c κs = search needs
 
-returns-2 : tie.Need-returns-2 Inv-loop μ-loop
-returns-2 c =
+returns : tie.Need-returns Inv-loop μ-loop
+returns c =
     let k = c .before .before .before .before in
     let n = group-found _ _ _ _ (sym (k .s .given .1) ∙ k .before .before .next-group .ensures) in
-    sym (k .before .before .before .loop .inv ∙ found _ _ _ _ _ (n .0) (sym (c .before .torn .ensures) ∙ c .if2 .taken))
+    sym (k .before .before .before .loop .inv ∙ found _ _ _ _ _ (n .0) (sym (c .before .torn .ensures) ∙ c .if1 .taken))
 
 loop-less : tie.Need-loop-less Inv-loop μ-loop
 loop-less c =
@@ -75,13 +69,13 @@ loop-again : tie.Need-loop-again Inv-loop μ-loop
 loop-again c =
     let k = c .before .before .before .before in
     let n = group-found _ _ _ _ (sym (k .s .given .1) ∙ k .before .before .next-group .ensures) in
-    k .before .before .before .loop .inv ∙ passed _ _ _ _ _ (n .0) (sym (c .before .torn .ensures) ∙ c .if2 .left)
+    k .before .before .before .loop .inv ∙ passed _ _ _ _ _ (n .0) (sym (c .before .torn .ensures) ∙ c .if1 .left)
 
 enum-told : tie.Need-enum-told Inv-loop μ-loop
 enum-told c = search needs
 
-returns-3 : tie.Need-returns-3 Inv-loop μ-loop
-returns-3 c =
+returns-2 : tie.Need-returns-2 Inv-loop μ-loop
+returns-2 c =
     let k = c .before .before in
     sym (k .before .loop .inv ∙ ended _ _ _ (group-found _ _ _ _ (sym (c .enum-told .given .1) ∙ k .next-group .ensures)))
 
@@ -91,7 +85,6 @@ clashes-spec =
     (tie.spec
     Inv-loop
     μ-loop
-    returns
     loop-holds
     next-group-requires
     enum-known-s
@@ -99,8 +92,8 @@ clashes-spec =
     part-torn-start
     part-torn-end
     torn-requires
-    returns-2
+    returns
     loop-less
     loop-again
     enum-told
-    returns-3)
+    returns-2)

@@ -9,20 +9,17 @@ use Rattle.duplicates.proofs.made.Tie as tie
 first : (a b r : Bool) → a ≡ true → r ≡ b → not r ≡ (a && not b)
 first a b r h e = rw (h, e)
 
-returns : tie.Need-returns
-returns c = sym (c .before .before .before .pre (c .if1 .taken))
-
 agreed-requires : tie.Need-agreed-requires
 agreed-requires c κs = search needs
 
-returns-2 : tie.Need-returns-2
-returns-2 c = rw (sym (c .before .agreed .ensures) ∙ not-true _ (c .if2 .taken))
+returns : tie.Need-returns
+returns c = rw (sym (c .before .agreed .ensures) ∙ not-true _ (c .if1 .taken))
 
 named-among-requires : tie.Need-named-among-requires
 named-among-requires c κs = search needs
 
-returns-3 : tie.Need-returns-3
-returns-3 c = first _ _ _ (sym (c .before .before .agreed .ensures) ∙ not-false _ (c .before .if2 .left)) (c .named-among .ensures)
+returns-2 : tie.Need-returns-2
+returns-2 c = first _ _ _ (sym (c .before .before .agreed .ensures) ∙ not-false _ (c .before .if1 .left)) (c .named-among .ensures)
 
 pub made-spec : {M : Type 1} → statement M
-made-spec = tie.close (tie.spec returns agreed-requires returns-2 named-among-requires returns-3)
+made-spec = tie.close (tie.spec agreed-requires returns named-among-requires returns-2)

@@ -5,26 +5,17 @@ use Rattle.plan.specs.Looked.{entered-missed, entered-found}
 use Rattle.plan.proofs.enter.Statement.{statement}
 use Rattle.plan.proofs.enter.Tie as tie
 
-group-of-requires : tie.Need-group-of-requires
-group-of-requires c κs = search needs
-
-group-count-requires : tie.Need-group-count-requires
-group-count-requires c κs = search needs
+group-in-requires : tie.Need-group-in-requires
+group-in-requires c κs = search needs
 
 returns : tie.Need-returns
-returns c = sym (entered-missed _ _ _ _ _ (c .before .before .group-of .ensures) _ (c .before .group-count .ensures) (c .if1 .taken))
+returns c = sym (entered-missed _ _ _ _ _ (c .before .group-in .ensures) (c .if1 .taken))
 
 members-at-requires : tie.Need-members-at-requires
 members-at-requires c κs = search needs
 
 enum-known-set : tie.Need-enum-known-set
 enum-known-set c = search needs
-
-cast-number : tie.Need-cast-number
-cast-number c = search needs
-
-add-number : tie.Need-add-number
-add-number c = search needs
 
 enum-told : tie.Need-enum-told
 enum-told c = search needs
@@ -33,25 +24,22 @@ returns-2 : tie.Need-returns-2
 returns-2 c =
     let k = c .before .before .before in
     let e = sym (c .before .set .given .1) ∙ k .members-at .ensures in
-    sym (entered-found _ _ _ _ _ (k .before .before .before .group-of .ensures) _ (k .before .before .group-count .ensures) (k .before .if1 .left) _ e)
+    sym (entered-found _ _ _ _ _ (k .before .before .group-in .ensures) (k .before .if1 .left) _ e)
 
 returns-3 : tie.Need-returns-3
 returns-3 c =
     let k = c .before .before in
     let e = sym (c .enum-told .given .1) ∙ k .members-at .ensures in
-    sym (entered-found _ _ _ _ _ (k .before .before .before .group-of .ensures) _ (k .before .before .group-count .ensures) (k .before .if1 .left) _ e)
+    sym (entered-found _ _ _ _ _ (k .before .before .group-in .ensures) (k .before .if1 .left) _ e)
 
 pub enter-spec : {M : Type 1} → statement M
 enter-spec =
     tie.close
     (tie.spec
-    group-of-requires
-    group-count-requires
+    group-in-requires
     returns
     members-at-requires
     enum-known-set
-    cast-number
-    add-number
     enum-told
     returns-2
     returns-3)

@@ -8,19 +8,19 @@ use lib.ListN.{length}
 use Rattle.walk.specs.Groups.{groups, groups-from}
 use Rattle.duplicates.specs.Next.{group-found}
 use Rattle.plan.specs.Looked.{entered-told}
-use Rattle.plan.specs.Turns.{Taken, taken-none, taken-alone, taken-left, taken-unknown, taken-made, taken-too-many, taken-fits, taken-words}
+use Rattle.plan.specs.Turns.{Taken, taken-none, taken-left, taken-unknown, taken-made, taken-too-many, taken-fits, taken-words}
 use Rattle.plan.proofs.fitted.Statement.{statement}
 use Rattle.plan.proofs.fitted.Tie as tie
 
 abbrev Inv-loop : tie.InvT-loop
-Inv-loop text g lone book n index words₀ count₀ k₀ j₀ begun₀ words count k j begun =
+Inv-loop text g book n words₀ count₀ k₀ j₀ begun₀ words count k j begun =
     (count ≤ j) × (k ≤ count) × Taken n book (groups text g) (groups-from text j begun) count k words
 
 abbrev μ-loop : tie.MeasureT-loop
-μ-loop text g lone book n index words₀ count₀ k₀ j₀ begun₀ words count k j begun = length text - j
+μ-loop text g book n words₀ count₀ k₀ j₀ begun₀ words count k j begun = length text - j
 
 loop-holds : tie.Need-loop-holds Inv-loop μ-loop
-loop-holds c = (omega arith, omega arith, taken-none _ _ _ _ (c .before .before .before .before .pre .1 .1))
+loop-holds c = (omega arith, omega arith, taken-none _ _ _ _ (c .before .before .before .pre .1))
 
 next-group-requires : tie.Need-next-group-requires Inv-loop μ-loop
 next-group-requires c κs = search needs
@@ -38,8 +38,7 @@ part-made-end : tie.Need-part-made-end Inv-loop μ-loop
 part-made-end c = group-found _ _ _ _ (sym (c .before .s .given .1) ∙ c .before .before .before .next-group .ensures) .2 .1
 
 made-requires : tie.Need-made-requires Inv-loop μ-loop
-made-requires c κs =
-    λ h. taken-alone _ _ _ _ _ _ _ (c .before .before .before .before .before .loop .inv .2) _ _ (group-found _ _ _ _ (sym (c .before .before .s .given .1) ∙ c .before .before .before .before .next-group .ensures) .0) (c .before .before .before .before .before .before .before .before .before .before .pre .0 h)
+made-requires c κs = search needs
 
 sub-enter : tie.Need-sub-enter Inv-loop μ-loop
 sub-enter c = group-found _ _ _ _ (sym (c .before .before .before .before .s .given .1) ∙ c .before .before .before .before .before .before .next-group .ensures) .2 .0
@@ -51,7 +50,7 @@ part-enter-end : tie.Need-part-enter-end Inv-loop μ-loop
 part-enter-end c = group-found _ _ _ _ (sym (c .before .before .before .before .s .given .1) ∙ c .before .before .before .before .before .before .next-group .ensures) .2 .1
 
 enter-requires : tie.Need-enter-requires Inv-loop μ-loop
-enter-requires c κs = c .before .before .before .before .before .before .before .before .before .before .before .before .before .pre .1 .0
+enter-requires c κs = c .before .before .before .before .before .before .before .before .before .before .before .before .pre .0
 
 enum-known-number : tie.Need-enum-known-number Inv-loop μ-loop
 enum-known-number c = search needs

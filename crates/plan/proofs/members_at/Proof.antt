@@ -12,10 +12,10 @@ use Rattle.plan.proofs.members_at.Statement.{statement}
 use Rattle.plan.proofs.members_at.Tie as tie
 
 abbrev Inv-loop : tie.InvT-loop
-Inv-loop text at book n index set₀ j₀ set j = members (node-atoms n book) 0 (nodes text at) ≡ members (node-atoms n book) set (nodes text j)
+Inv-loop text at book n set₀ j₀ set j = members (node-atoms n book) 0 (nodes text at) ≡ members (node-atoms n book) set (nodes text j)
 
 abbrev μ-loop : tie.MeasureT-loop
-μ-loop text at book n index set₀ j₀ set j = length text - j
+μ-loop text at book n set₀ j₀ set j = length text - j
 
 loop-holds : tie.Need-loop-holds Inv-loop μ-loop
 loop-holds c = search needs
@@ -26,25 +26,25 @@ node-at-requires c κs = search needs
 enum-known-s : tie.Need-enum-known-s Inv-loop μ-loop
 enum-known-s c = search needs
 
-sub-node-of : tie.Need-sub-node-of Inv-loop μ-loop
-sub-node-of c = node-found _ _ _ (sym (c .before .s .given .1) ∙ c .before .before .before .node-at .ensures) .2 .0
+sub-node-in : tie.Need-sub-node-in Inv-loop μ-loop
+sub-node-in c = node-found _ _ _ (sym (c .before .s .given .1) ∙ c .before .before .before .node-at .ensures) .2 .0
 
-part-node-of-start : tie.Need-part-node-of-start Inv-loop μ-loop
-part-node-of-start c = node-found _ _ _ (sym (c .before .s .given .1) ∙ c .before .before .before .node-at .ensures) .2 .0
+part-node-in-start : tie.Need-part-node-in-start Inv-loop μ-loop
+part-node-in-start c = node-found _ _ _ (sym (c .before .s .given .1) ∙ c .before .before .before .node-at .ensures) .2 .0
 
-part-node-of-end : tie.Need-part-node-of-end Inv-loop μ-loop
-part-node-of-end c = node-found _ _ _ (sym (c .before .s .given .1) ∙ c .before .before .before .node-at .ensures) .2 .1
+part-node-in-end : tie.Need-part-node-in-end Inv-loop μ-loop
+part-node-in-end c = node-found _ _ _ (sym (c .before .s .given .1) ∙ c .before .before .before .node-at .ensures) .2 .1
 
-node-of-requires : tie.Need-node-of-requires Inv-loop μ-loop
-node-of-requires c κs = search needs
+node-in-requires : tie.Need-node-in-requires Inv-loop μ-loop
+node-in-requires c κs = search needs
 
 returns : tie.Need-returns Inv-loop μ-loop
 returns c =
     let k = c .before .before .before .before in
-    let p = k .before .before .before .before .before .before .before in
+    let p = k .before .before .before .before .before .before in
     let n = node-found _ _ _ (sym (k .s .given .1) ∙ k .before .before .node-at .ensures) in
-    let size = fit-nodes (p .args .n) (p .args .book .now) (p .pre .noted .fits) in
-    sym (k .before .before .before .loop .inv ∙ members-missed _ _ size _ _ _ _ (n .0) _ (c .before .node-of .ensures) (c .if1 .taken))
+    let size = fit-nodes (p .args .n) (p .args .book .now) (p .pre) in
+    sym (k .before .before .before .loop .inv ∙ members-missed _ _ size _ _ _ _ (n .0) _ (c .before .node-in .ensures) (c .if1 .taken))
 
 with-requires : tie.Need-with-requires Inv-loop μ-loop
 with-requires c κs = search needs
@@ -58,34 +58,34 @@ loop-less c =
 loop-again : tie.Need-loop-again Inv-loop μ-loop
 loop-again c =
     let k = c .before .before .before .before .before in
-    let p = k .before .before .before .before .before .before .before in
+    let p = k .before .before .before .before .before .before in
     let n = node-found _ _ _ (sym (k .s .given .1) ∙ k .before .before .node-at .ensures) in
-    let size = fit-nodes (p .args .n) (p .args .book .now) (p .pre .noted .fits) in
+    let size = fit-nodes (p .args .n) (p .args .book .now) (p .pre) in
     k .before .before .before .loop .inv
-    ∙ members-found _ _ size _ _ _ _ (n .0) _ (c .before .before .node-of .ensures) (c .before .if1 .left) _ (c .with .ensures)
+    ∙ members-found _ _ size _ _ _ _ (n .0) _ (c .before .before .node-in .ensures) (c .before .if1 .left) _ (c .with .ensures)
 
 enum-known-s-2 : tie.Need-enum-known-s-2 Inv-loop μ-loop
 enum-known-s-2 c = search needs
 
-sub-node-of-2 : tie.Need-sub-node-of-2 Inv-loop μ-loop
-sub-node-of-2 c = node-found _ _ _ (sym (c .before .s2 .given .1) ∙ c .before .before .before .node-at .ensures) .1 .0
+sub-node-in-2 : tie.Need-sub-node-in-2 Inv-loop μ-loop
+sub-node-in-2 c = node-found _ _ _ (sym (c .before .s2 .given .1) ∙ c .before .before .before .node-at .ensures) .1 .0
 
-part-node-of-start-2 : tie.Need-part-node-of-start-2 Inv-loop μ-loop
-part-node-of-start-2 c = node-found _ _ _ (sym (c .before .s2 .given .1) ∙ c .before .before .before .node-at .ensures) .1 .0
+part-node-in-start-2 : tie.Need-part-node-in-start-2 Inv-loop μ-loop
+part-node-in-start-2 c = node-found _ _ _ (sym (c .before .s2 .given .1) ∙ c .before .before .before .node-at .ensures) .1 .0
 
-part-node-of-end-2 : tie.Need-part-node-of-end-2 Inv-loop μ-loop
-part-node-of-end-2 c = node-found _ _ _ (sym (c .before .s2 .given .1) ∙ c .before .before .before .node-at .ensures) .1 .1
+part-node-in-end-2 : tie.Need-part-node-in-end-2 Inv-loop μ-loop
+part-node-in-end-2 c = node-found _ _ _ (sym (c .before .s2 .given .1) ∙ c .before .before .before .node-at .ensures) .1 .1
 
-node-of-requires-2 : tie.Need-node-of-requires-2 Inv-loop μ-loop
-node-of-requires-2 c κs = search needs
+node-in-requires-2 : tie.Need-node-in-requires-2 Inv-loop μ-loop
+node-in-requires-2 c κs = search needs
 
 returns-2 : tie.Need-returns-2 Inv-loop μ-loop
 returns-2 c =
     let k = c .before .before .before .before in
-    let p = k .before .before .before .before .before .before .before in
+    let p = k .before .before .before .before .before .before in
     let n = node-found _ _ _ (sym (k .s2 .given .1) ∙ k .before .before .node-at .ensures) in
-    let size = fit-nodes (p .args .n) (p .args .book .now) (p .pre .noted .fits) in
-    sym (k .before .before .before .loop .inv ∙ members-missed _ _ size _ _ _ _ (n .0) _ (c .before .node-of2 .ensures) (c .if2 .taken))
+    let size = fit-nodes (p .args .n) (p .args .book .now) (p .pre) in
+    sym (k .before .before .before .loop .inv ∙ members-missed _ _ size _ _ _ _ (n .0) _ (c .before .node-in2 .ensures) (c .if2 .taken))
 
 with-requires-2 : tie.Need-with-requires-2 Inv-loop μ-loop
 with-requires-2 c κs = search needs
@@ -93,12 +93,12 @@ with-requires-2 c κs = search needs
 returns-3 : tie.Need-returns-3 Inv-loop μ-loop
 returns-3 c =
     let k = c .before .before .before .before .before in
-    let p = k .before .before .before .before .before .before .before in
+    let p = k .before .before .before .before .before .before in
     let n = node-found _ _ _ (sym (k .s2 .given .1) ∙ k .before .before .node-at .ensures) in
-    let size = fit-nodes (p .args .n) (p .args .book .now) (p .pre .noted .fits) in
+    let size = fit-nodes (p .args .n) (p .args .book .now) (p .pre) in
     sym
     (k .before .before .before .loop .inv
-    ∙ members-found _ _ size _ _ _ _ (n .0) _ (c .before .before .node-of2 .ensures) (c .before .if2 .left) _ (c .with2 .ensures)
+    ∙ members-found _ _ size _ _ _ _ (n .0) _ (c .before .before .node-in2 .ensures) (c .before .if2 .left) _ (c .with2 .ensures)
     ∙ members-ended _ _ _ refl)
 
 enum-told : tie.Need-enum-told Inv-loop μ-loop
@@ -118,19 +118,19 @@ members-at-spec =
     loop-holds
     node-at-requires
     enum-known-s
-    sub-node-of
-    part-node-of-start
-    part-node-of-end
-    node-of-requires
+    sub-node-in
+    part-node-in-start
+    part-node-in-end
+    node-in-requires
     returns
     with-requires
     loop-less
     loop-again
     enum-known-s-2
-    sub-node-of-2
-    part-node-of-start-2
-    part-node-of-end-2
-    node-of-requires-2
+    sub-node-in-2
+    part-node-in-start-2
+    part-node-in-end-2
+    node-in-requires-2
     returns-2
     with-requires-2
     returns-3

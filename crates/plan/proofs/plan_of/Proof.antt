@@ -26,9 +26,6 @@ module _ (N : ℕ) (book : List ℕ) (start : ℕ) (gs : List Group) (v : List �
   unfolding verdict
   unclashed h = rw (here, h)
 
-apart-requires : tie.Need-apart-requires
-apart-requires c κs = search needs
-
 line-requires : tie.Need-line-requires
 line-requires c κs = search needs
 
@@ -37,7 +34,7 @@ clashes-requires c κs = search needs
 
 returns : tie.Need-returns
 returns c =
-    let s = c .before .before .before .before .before .before .before .before .args in
+    let s = c .before .before .before .before .before .before .args in
     (sym (clashed (s .n) _ _ _ _ (c .before .before .line .ensures) _ (c .before .clashes .ensures) (c .if1 .taken)), λ i h. absurd (let z : _≡_ {A = ℕ} 0 1 = cc in omega arith))
 
 fitted-requires : tie.Need-fitted-requires
@@ -56,7 +53,6 @@ pub plan-of-spec : {M : Type 1} → statement M
 plan-of-spec =
     tie.close
     (tie.spec
-    apart-requires
     line-requires
     clashes-requires
     returns

@@ -1,0 +1,216 @@
+-- `gathering::gather` meets its contract: between two groups, those passed are in the book, told apart and written. Assumes nothing.
+use borrow.Author.Needs.{needs}
+use mathlib.Core.Path.{_≡_, refl, sym, _∙_}
+use Prim.Native.Nat.{ℕ, _-_}
+use native.Mathlib.Omega.{arith}
+use lib.ListN.{length, length-set}
+use Rattle.walk.specs.Unfold.{group-ahead, head-ahead, nodes-ahead}
+use Rattle.gathering.specs.Turns.{Taken, taken-none, taken-more, taken-all}
+use Rattle.gathering.proofs.gather.Statement.{statement}
+use Rattle.gathering.proofs.gather.Tie as tie
+
+abbrev Inv-loop : tie.InvT-loop
+Inv-loop text g book n index words₀ k₀ j₀ begun₀ words k j begun = Taken n book text g j begun k words
+
+abbrev μ-loop : tie.MeasureT-loop
+μ-loop text g book n index words₀ k₀ j₀ begun₀ words k j begun = length text - j
+
+loop-holds : tie.Need-loop-holds Inv-loop μ-loop
+loop-holds c = taken-none _ _ _ _ _ (c .before .before .before .before .pre .1)
+
+entry-at-requires : tie.Need-entry-at-requires Inv-loop μ-loop
+entry-at-requires c κs = search needs
+
+enum-known-e : tie.Need-enum-known-e Inv-loop μ-loop
+enum-known-e c = search needs
+
+same-length : tie.Need-same-length Inv-loop μ-loop
+same-length c = search needs
+
+returns : tie.Need-returns Inv-loop μ-loop
+returns c =
+    let l = c .before .before .before .before .loop in
+    let P = taken-all _ _ _ _ _ _ _ _ (l .inv) _ (sym (c .before .before .before .entry-at .ensures) ∙ c .before .e .given .1) in
+    λ k e h.
+    let x : l .k ≡ k = cc in
+    let y : c .before .e .given .0 .0 ≡ e = cc in
+    rw (x, y) at P
+
+enum-told : tie.Need-enum-told Inv-loop μ-loop
+enum-told c = search needs
+
+same-length-2 : tie.Need-same-length-2 Inv-loop μ-loop
+same-length-2 c = search needs
+
+returns-2 : tie.Need-returns-2 Inv-loop μ-loop
+returns-2 c = λ k e h. absurd (let z : _≡_ {A = ℕ} 0 1 = cc in omega arith)
+
+enum-known-front : tie.Need-enum-known-front Inv-loop μ-loop
+enum-known-front c = search needs
+
+head-at-requires : tie.Need-head-at-requires Inv-loop μ-loop
+head-at-requires c κs = search needs
+
+enum-told-2 : tie.Need-enum-told-2 Inv-loop μ-loop
+enum-told-2 c = search needs
+
+same-length-3 : tie.Need-same-length-3 Inv-loop μ-loop
+same-length-3 c = search needs
+
+returns-3 : tie.Need-returns-3 Inv-loop μ-loop
+returns-3 c = λ k e h. absurd (let z : _≡_ {A = ℕ} 0 1 = cc in omega arith)
+
+enum-known-s : tie.Need-enum-known-s Inv-loop μ-loop
+enum-known-s c = search needs
+
+sub-group-of : tie.Need-sub-group-of Inv-loop μ-loop
+sub-group-of c = head-ahead _ _ _ _ _ (sym (c .before .before .before .head-at .ensures) ∙ c .before .s .given .1) .1 .0
+
+part-group-of-start : tie.Need-part-group-of-start Inv-loop μ-loop
+part-group-of-start c = head-ahead _ _ _ _ _ (sym (c .before .before .before .head-at .ensures) ∙ c .before .s .given .1) .1 .0
+
+part-group-of-end : tie.Need-part-group-of-end Inv-loop μ-loop
+part-group-of-end c = head-ahead _ _ _ _ _ (sym (c .before .before .before .head-at .ensures) ∙ c .before .s .given .1) .1 .1
+
+group-of-requires : tie.Need-group-of-requires Inv-loop μ-loop
+group-of-requires c κs = search needs
+
+group-count-requires : tie.Need-group-count-requires Inv-loop μ-loop
+group-count-requires c κs = search needs
+
+same-length-4 : tie.Need-same-length-4 Inv-loop μ-loop
+same-length-4 c = search needs
+
+returns-4 : tie.Need-returns-4 Inv-loop μ-loop
+returns-4 c = λ k e h. absurd (let z : _≡_ {A = ℕ} 0 1 = cc in omega arith)
+
+cast-number : tie.Need-cast-number Inv-loop μ-loop
+cast-number c = search needs
+
+add-number : tie.Need-add-number Inv-loop μ-loop
+add-number c = search needs
+
+same-length-5 : tie.Need-same-length-5 Inv-loop μ-loop
+same-length-5 c = search needs
+
+returns-5 : tie.Need-returns-5 Inv-loop μ-loop
+returns-5 c = λ k e h. absurd (let z : _≡_ {A = ℕ} 0 1 = cc in omega arith)
+
+seen-requires : tie.Need-seen-requires Inv-loop μ-loop
+seen-requires c κs = search needs
+
+same-length-6 : tie.Need-same-length-6 Inv-loop μ-loop
+same-length-6 c = search needs
+
+returns-6 : tie.Need-returns-6 Inv-loop μ-loop
+returns-6 c = λ k e h. absurd (let z : _≡_ {A = ℕ} 0 1 = cc in omega arith)
+
+nodes-at-requires : tie.Need-nodes-at-requires Inv-loop μ-loop
+nodes-at-requires c κs = search needs
+
+enum-told-3 : tie.Need-enum-told-3 Inv-loop μ-loop
+enum-told-3 c = search needs
+
+same-length-7 : tie.Need-same-length-7 Inv-loop μ-loop
+same-length-7 c = search needs
+
+returns-7 : tie.Need-returns-7 Inv-loop μ-loop
+returns-7 c = λ k e h. absurd (let z : _≡_ {A = ℕ} 0 1 = cc in omega arith)
+
+enum-known-set : tie.Need-enum-known-set Inv-loop μ-loop
+enum-known-set c = search needs
+
+mul-at : tie.Need-mul-at Inv-loop μ-loop
+mul-at c = search needs
+
+mul-words : tie.Need-mul-words Inv-loop μ-loop
+mul-words c = search needs
+
+slice-write-words : tie.Need-slice-write-words Inv-loop μ-loop
+slice-write-words c = search needs
+
+add-words : tie.Need-add-words Inv-loop μ-loop
+add-words c = search needs
+
+mul-words-2 : tie.Need-mul-words-2 Inv-loop μ-loop
+mul-words-2 c = search needs
+
+slice-write-words-2 : tie.Need-slice-write-words-2 Inv-loop μ-loop
+slice-write-words-2 c = simp length-set (omega arith)
+
+add-k : tie.Need-add-k Inv-loop μ-loop
+add-k c = search needs
+
+loop-less : tie.Need-loop-less Inv-loop μ-loop
+loop-less c =
+    let p = c .before .before .before in
+    let f = c .before .before .before .before .before .before .before .before .before .before in
+    let h = f .before .before .before .before .before in
+    let e = h .before .before .before .before in
+    let opens = sym (e .entry-at .ensures) ∙ h .before .before .front .given .1 in
+    let head = sym (h .head-at .ensures) ∙ f .before .before .before .s .given .1 in
+    let peopled = p .nodes-at .ensures _ _ (c .before .set .given .1) in
+    let i = group-ahead _ _ _ _ opens in
+    let m = head-ahead _ _ _ _ _ head in
+    let n = nodes-ahead _ _ _ (peopled .past) in
+    omega (arith, i .0, m .0 .0, n .0, n .1)
+
+loop-again : tie.Need-loop-again Inv-loop μ-loop
+loop-again c =
+    let p = c .before .before .before in
+    let f = c .before .before .before .before .before .before .before .before .before .before in
+    let h = f .before .before .before .before .before in
+    let e = h .before .before .before .before in
+    let opens = sym (e .entry-at .ensures) ∙ h .before .before .front .given .1 in
+    let head = sym (h .head-at .ensures) ∙ f .before .before .before .s .given .1 in
+    let peopled = p .nodes-at .ensures _ _ (c .before .set .given .1) in
+    taken-more _ _ _ _ _ _ _ _ (e .before .loop .inv) _ _ _ _ opens head _ (f .group-of .ensures) _ (c .before .before .before .before .before .before .before .before .before .group-count .ensures) (c .before .before .before .before .before .before .before .before .if1 .left) (c .before .before .before .before .before .before .before .if2 .left) (sym (c .before .before .before .before .before .seen .ensures) ∙ c .before .before .before .before .if3 .left) _ _ peopled _ refl
+
+pub gather-spec : {M : Type 1} → statement M
+gather-spec =
+    tie.close
+    (tie.spec
+    Inv-loop
+    μ-loop
+    loop-holds
+    entry-at-requires
+    enum-known-e
+    same-length
+    returns
+    enum-told
+    same-length-2
+    returns-2
+    enum-known-front
+    head-at-requires
+    enum-told-2
+    same-length-3
+    returns-3
+    enum-known-s
+    sub-group-of
+    part-group-of-start
+    part-group-of-end
+    group-of-requires
+    group-count-requires
+    same-length-4
+    returns-4
+    cast-number
+    add-number
+    same-length-5
+    returns-5
+    seen-requires
+    same-length-6
+    returns-6
+    nodes-at-requires
+    enum-told-3
+    same-length-7
+    returns-7
+    enum-known-set
+    mul-at
+    mul-words
+    slice-write-words
+    add-words
+    mul-words-2
+    slice-write-words-2
+    add-k
+    loop-less
+    loop-again)

@@ -1,11 +1,11 @@
 -- What a launch is, test by test, and after the plan of its groups. Assumes nothing.
 use mathlib.Core.Path.{_≡_, refl, sym, ap, _∙_}
-use mathlib.Core.Bool.{Bool, true, false, not, _&&_, _||_, cond, and-eq-true-iff}
+use mathlib.Core.Bool.{Bool, true, false, not, _&&_, _||_, cond, and-eq-true-iff, true≢false, false≢true}
 use mathlib.Core.List.{List, [], _∷_}
-use Prim.Native.Nat.{ℕ, _+_, _≤_, _<_}
+use Prim.Native.Nat.{ℕ, _+_, _*_, _≤_, _<_}
 use native.Mathlib.Omega.{arith}
 use lib.Dec.{eqb, leb, ltb}
-use lib.ListN.{length, getD, length-drop}
+use lib.ListN.{length, getD, take, length-drop}
 use borrow.Author.Tests.{eq-eqb, ne-eqb, lt-ltb, le-ltb, leb-true, ltb-true, ltb-false}
 use Rattle.nodes.specs.NodeSets.{node-limit, beyond}
 use Rattle.answers.specs.Answers.{refuses, answer-of}
@@ -24,6 +24,9 @@ use Rattle.entries.specs.Pids.{half-word}
 use Rattle.tokens.specs.Reserved.{among}
 use Rattle.grammar.specs.File.{Group, Outcome, taken, refused, outcome}
 use Rattle.walk.specs.Groups.{groups}
+use Rattle.launch_file.specs.Reading.{from-groups, read-as}
+use Rattle.launch_file.specs.declared.Reading.{Reading}
+use Rattle.launch_file.specs.declared.Reading.the-variants as Reading
 use Rattle.book.specs.Book.{group-atoms, lines, fit, place-of, node-atoms, group-atoms-of}
 use Rattle.book.specs.PlaceLaws.{place-among}
 use Rattle.book.specs.Hinting.{fit-few}
@@ -31,6 +34,7 @@ use Rattle.duplicates.specs.Duplicates.{covered, kept, clash}
 use Rattle.plan.specs.declared.Plan.{Plan}
 use Rattle.plan.specs.declared.Plan.the-variants.{Clash, Unknown, TooMany, Fits}
 use Rattle.plan.specs.Plan.{number-of, listed, all-listed, plan-words, fitting, verdict}
+use Rattle.gathering.specs.Gathering.{Planned}
 use Rattle.launch.specs.Launch.{Launch, found, no-file, place-of-refusal, made, launch}
 
 -- Error for a reason, at a place, and every word as it was
@@ -188,3 +192,40 @@ makes-so N hidden book gs t words e w q = rw e (w .0, (w .1, w .2 ∙ rw q (word
 pub record Was-read (file : List ℕ) (whole : Bool) (place : ℕ) : Type 0 where
   pub is-file : whole ≡ true → outcome file ≡ taken (groups file place)
   pub is-none : whole ≡ false → outcome file ≡ refused place
+
+-- the groups of a file begin at a place: it goes on there, and is known to be whole or not
+pub record Begun (file : List ℕ) (whole : Bool) (g : ℕ) : Type 0 where
+  pub goes-on : outcome file ≡ from-groups file g
+  pub is-file : whole ≡ true → outcome file ≡ taken (groups file g)
+
+-- a launch that was tried in one walk: it went through from every starting node and left the table u, or it left the table as it was
+pub record At-once (N hidden : ℕ) (book file t u : List ℕ) (r : Bool) : Type 0 where
+  pub went-through : r ≡ true → (start : ℕ) → start < N → launch N hidden start book file t ≡ record { answer = answer-of Ok Done; place = 0; table = u }
+  pub untouched : r ≡ false → u ≡ t
+
+pub not-at-once : {N hidden : ℕ} {book file t : List ℕ} → At-once N hidden book file t t false
+not-at-once = record { went-through = λ e. absurd (false≢true e); untouched = λ e. refl }
+
+-- what one walk gathered makes the table
+pub made-at-once : (N hidden : ℕ) (book file t : List ℕ) (g k e : ℕ) (words u : List ℕ) → Open N hidden t → fit N book ≡ true → outcome file ≡ taken (groups file g)
+    → Planned N book file g words k e → u ≡ created (take (2 * k) words) (opening N hidden t .table) → At-once N hidden book file t u true
+made-at-once N hidden book file t g k e words u o b w P c = record {
+  went-through = λ _ start known.
+      planned N hidden start book file t (record { opens = o; known = known }) b (groups file g) w
+      ∙ ap (by-plan N hidden book (groups file g) t) (P .fits start)
+      ∙ ap (λ v. record { answer = answer-of Ok Done; place = 0; table = v }) (sym (c ∙ rw (P .written) (words-make N book (kept (groups file g)) (opening N hidden t .table))));
+  untouched = λ e. absurd (true≢false e);
+}
+
+-- a launch that went through is told so
+pub tells-through : {l : Launch} {u : List ℕ} {a : Answer} {p : ℕ} → l ≡ record { answer = answer-of Ok Done; place = 0; table = u } → (a ≡ answer-of Ok Done) × (p ≡ 0) → Tells l a p u
+tells-through e w = rw e (w .0, (w .1, refl))
+
+-- reading said that a file whose groups begin at g is whole
+pub read-whole : (file : List ℕ) (g k : ℕ) (r : Reading) → outcome file ≡ from-groups file g → from-groups file g ≡ read-as file r → ((i : ℕ) → r ≡ Reading.Whole i → i ≡ g) → r ≡ Reading.Whole k
+    → outcome file ≡ taken (groups file g)
+read-whole file g k r o f same is = o ∙ f ∙ ap (read-as file) is ∙ ap (λ i. taken (groups file i)) (same k is)
+
+-- what is told of a table is told of the same table
+pub told-of : (N hidden start : ℕ) (book file : List ℕ) {t u v : List ℕ} {a : Answer} {p : ℕ} → u ≡ t → Tells (launch N hidden start book file u) a p v → Tells (launch N hidden start book file t) a p v
+told-of N hidden start book file e w = rw e at w

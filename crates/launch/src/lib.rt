@@ -5,18 +5,25 @@ use answers::Value;
 use answers::done;
 use answers::refused;
 use book::INDEX_SIZE;
+use gathering::Gathered;
 use launch_file::Reading;
 use layout::GROUP_LIMIT;
 use layout::NODE_LIMIT;
 use layout::TABLE_WORDS;
 use plan::Plan;
+use walk::Step;
 ghost use mathlib.Core.Path.{_≡_};
 ghost use mathlib.Core.Bool.{true};
 ghost use Rattle.answers.specs.Answers.{answer-of};
 ghost use Rattle.answers.specs.declared.Value.the-variants.{Ok, Error};
 ghost use Rattle.answers.specs.declared.Reason.the-variants.{Done};
 ghost use Rattle.launch.specs.Launch.{launch};
-ghost use Rattle.launch.specs.Launches.{Open, In-order, Was-read};
+ghost use Rattle.launch.specs.Launches.{Open, In-order, Was-read, Begun, At-once};
+ghost use Prim.Native.Nat.{ℕ};
+ghost use Rattle.grammar.specs.File.{outcome, taken};
+ghost use Rattle.walk.specs.Groups.{groups, pass-groups};
+ghost use Rattle.walk.specs.declared.Step.the-variants as Step;
+ghost use Rattle.launch_file.specs.Reading.{from-groups};
 ghost use Rattle.creating.specs.Creating.{narrow, created};
 ghost use Rattle.semantics.specs.Call.{opening};
 
@@ -39,6 +46,16 @@ fn refused_at(reason: Reason, place: usize) -> Launched
     }
 }
 
+// A launch that went through.
+fn through() -> Launched
+    ensures { λ r. ⌜ (r .answer ≡ answer-of Ok Done) × (r .place ≡ 0) ⌝ }
+{
+    Launched {
+        answer: done(Value::Ok),
+        place: 0,
+    }
+}
+
 // The table is opened, and the s_groups of the words are made.
 fn make(t: &mut [u64], n: u32, hidden: u64, words: &[u64]) -> Launched
     requires { ⌜ Open n hidden (now t) ⌝ }
@@ -47,10 +64,7 @@ fn make(t: &mut [u64], n: u32, hidden: u64, words: &[u64]) -> Launched
 {
     opening::open(t, n, hidden);
     creating::create(t, words);
-    Launched {
-        answer: done(Value::Ok),
-        place: 0,
-    }
+    through()
 }
 
 // The launch of a file that was read, on a run and a roster that are in order: it is a file whose groups stand at the place, or it is refused there.
@@ -70,21 +84,94 @@ fn judged(
     ensures { λ r. ⌜ r .place ≡ launch n hidden start (now (book .entry)) (now (file .entry)) (now (t .entry)) .place ⌝ }
     ensures { λ _. ⌜ now (t .exit) ≡ launch n hidden start (now (book .entry)) (now (file .entry)) (now (t .entry)) .table ⌝ }
 {
-    let mut index = [0u8; INDEX_SIZE];
-    if !book::fit(book, n, &mut index) {
+    if !plain_book::fits(book, n) {
         return refused_at(Reason::NoLaunchFile, 0);
     }
     if !whole {
         return refused_at(Reason::NoLaunchFile, place);
     }
     let mut words = [0u64; PLAN_WORDS];
-    match plan::plan_of(file, place, book, n, &index, start, &mut words) {
+    match plan::plan_of(file, place, book, n, start, &mut words) {
         Plan::Clash => refused_at(Reason::GroupsDiffer, 0),
         Plan::Unknown => refused_at(Reason::AtomUnknown, 0),
         Plan::TooMany => refused_at(Reason::GroupsFull, 0),
         Plan::Fits(count) => {
             let used = 2 * count;
             make(t, n, hidden, &words[..used])
+        }
+    }
+}
+
+// Whether a file whose groups end in front of a place is whole: it is known to be, or it ends there at once.
+fn ended(file: &[u8], end: usize, whole: bool) -> bool
+    ensures { λ r. ⌜ ((g : ℕ) → pass-groups (now (file .entry)) g ≡ Step.Past end → Begun (now (file .entry)) whole g → r ≡ true → outcome (now (file .entry)) ≡ taken (groups (now (file .entry)) g)) ⌝ }
+{
+    if whole {
+        return true;
+    }
+    launch_file::ends(file, end)
+}
+
+// The launch of a file whose groups begin at g, where one walk over them says all: each has a name of its own, their atoms are in the book, and the file
+// ends behind them or is known to be whole. Whether it went through; otherwise nothing is written.
+fn at_once(
+    t: &mut [u64],
+    n: u32,
+    hidden: u64,
+    book: &[u8],
+    file: &[u8],
+    g: usize,
+    whole: bool,
+) -> bool
+    requires { ⌜ Open n hidden (now t) ⌝ }
+    requires { ⌜ Begun (now file) whole g ⌝ }
+    ensures { λ r. ⌜ At-once n hidden (now (book .entry)) (now (file .entry)) (now (t .entry)) (now (t .exit)) r ⌝ }
+{
+    let mut index = [0u8; INDEX_SIZE];
+    if !book::fit(book, n, &mut index) {
+        return false;
+    }
+    let mut words = [0u64; PLAN_WORDS];
+    match gathering::gather(file, g, book, n, &index, &mut words) {
+        Gathered::Unclear => false,
+        Gathered::Made(count, end) => {
+            if !ended(file, end, whole) {
+                return false;
+            }
+            let used = 2 * count;
+            make(t, n, hidden, &words[..used]);
+            true
+        }
+    }
+}
+
+// The launch of a file whose groups begin at g, on a run and a roster that are in order. Of the functions that it calls those with arrays are called twice,
+// so that the compiler keeps the arrays out of the frame on which reading stands.
+fn behind(
+    t: &mut [u64],
+    n: u32,
+    hidden: u64,
+    start: u32,
+    book: &[u8],
+    file: &[u8],
+    g: usize,
+) -> Launched
+    requires { ⌜ In-order n hidden start (now t) ⌝ }
+    requires { ⌜ outcome (now file) ≡ from-groups (now file) g ⌝ }
+    ensures { λ r. ⌜ r .answer ≡ launch n hidden start (now (book .entry)) (now (file .entry)) (now (t .entry)) .answer ⌝ }
+    ensures { λ r. ⌜ r .place ≡ launch n hidden start (now (book .entry)) (now (file .entry)) (now (t .entry)) .place ⌝ }
+    ensures { λ _. ⌜ now (t .exit) ≡ launch n hidden start (now (book .entry)) (now (file .entry)) (now (t .entry)) .table ⌝ }
+{
+    if at_once(t, n, hidden, book, file, g, false) {
+        return through();
+    }
+    match reader::rest_of(file, g) {
+        Reading::Refused(p) => judged(t, n, hidden, start, book, file, false, p),
+        Reading::Whole(_) => {
+            if at_once(t, n, hidden, book, file, g, true) {
+                return through();
+            }
+            judged(t, n, hidden, start, book, file, true, g)
         }
     }
 }
@@ -111,9 +198,8 @@ pub fn launch(t: &mut [u64], n: u32, hidden: u64, start: u32, book: &[u8], file:
     if n <= start {
         return refused_at(Reason::NodeUnknown, 0);
     }
-    // Two calls, so that the compiler keeps the arrays of `judged` out of the frame on which reading stands.
-    match reader::read_file(file) {
-        Reading::Whole(g) => judged(t, n, hidden, start, book, file, true, g),
-        Reading::Refused(p) => judged(t, n, hidden, start, book, file, false, p),
+    match reader::front_of(file) {
+        Step::Stop(p) => judged(t, n, hidden, start, book, file, false, p),
+        Step::Past(g) => behind(t, n, hidden, start, book, file, g),
     }
 }

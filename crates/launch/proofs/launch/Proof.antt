@@ -2,8 +2,8 @@
 -- Assumes nothing.
 use borrow.Author.Needs.{needs}
 use mathlib.Core.Path.{sym, ap, _∙_}
-use mathlib.Core.Bool.{true≢false, false≢true}
-use Rattle.launch_file.specs.Reading.{read-as}
+use mathlib.Core.Bool.{false≢true}
+use Rattle.launch_file.specs.Reading.{fronted}
 use Rattle.launch.specs.Launches.{length-wrong, nobody, too-many, hidden-beyond, start-beyond, refuses-so}
 use Rattle.launch.proofs.launch.Statement.{statement}
 use Rattle.launch.proofs.launch.Tie as tie
@@ -45,25 +45,25 @@ returns-5 c =
     (start-beyond _ _ _ _ _ _ (c .before .before .before .before .before .before .if1 .left) (c .before .before .before .before .before .if2 .left) (c .before .before .before .before .if3 .left) (sym (c .before .before .before .beyond .ensures) ∙ c .before .before .if4 .left) (c .before .if5 .taken))
     (c .refused-at5 .ensures)
 
-read-file-requires : tie.Need-read-file-requires
-read-file-requires c κs = search needs
-
-enum-known-g : tie.Need-enum-known-g
-enum-known-g c = search needs
-
-judged-requires : tie.Need-judged-requires
-judged-requires c κs = (
-  record { opens = record { long = c .before .before .before .before .before .before .before .before .before .before .if1 .left; some = c .before .before .before .before .before .before .before .before .before .if2 .left; few = c .before .before .before .before .before .before .before .before .if3 .left; on = sym (c .before .before .before .before .before .before .before .beyond .ensures) ∙ c .before .before .before .before .before .before .if4 .left }; known = c .before .before .before .before .before .if5 .left },
-  record { is-file = λ e. c .before .before .before .before .read-file .ensures ∙ ap (read-as _) (c .before .before .g .given .1); is-none = λ e. absurd (true≢false e) },
-)
+front-of-requires : tie.Need-front-of-requires
+front-of-requires c κs = search needs
 
 enum-known-p : tie.Need-enum-known-p
 enum-known-p c = search needs
 
-judged-requires-2 : tie.Need-judged-requires-2
-judged-requires-2 c κs = (
+judged-requires : tie.Need-judged-requires
+judged-requires c κs = (
   record { opens = record { long = c .before .before .before .before .before .before .before .before .before .before .if1 .left; some = c .before .before .before .before .before .before .before .before .before .if2 .left; few = c .before .before .before .before .before .before .before .before .if3 .left; on = sym (c .before .before .before .before .before .before .before .beyond .ensures) ∙ c .before .before .before .before .before .before .if4 .left }; known = c .before .before .before .before .before .if5 .left },
-  record { is-file = λ e. absurd (false≢true e); is-none = λ e. c .before .before .before .before .read-file .ensures ∙ ap (read-as _) (c .before .before .p .given .1) },
+  record { is-file = λ e. absurd (false≢true e); is-none = λ e. c .before .before .before .before .front-of .ensures ∙ ap (fronted _) (c .before .before .p .given .1) },
+)
+
+enum-known-g : tie.Need-enum-known-g
+enum-known-g c = search needs
+
+behind-requires : tie.Need-behind-requires
+behind-requires c κs = (
+  record { opens = record { long = c .before .before .before .before .before .before .before .before .before .before .if1 .left; some = c .before .before .before .before .before .before .before .before .before .if2 .left; few = c .before .before .before .before .before .before .before .before .if3 .left; on = sym (c .before .before .before .before .before .before .before .beyond .ensures) ∙ c .before .before .before .before .before .before .if4 .left }; known = c .before .before .before .before .before .if5 .left },
+  c .before .before .before .before .front-of .ensures ∙ ap (fronted _) (c .before .before .g .given .1),
 )
 
 same-length : tie.Need-same-length
@@ -76,7 +76,7 @@ same-length-2 : tie.Need-same-length-2
 same-length-2 c = search needs
 
 returns-7 : tie.Need-returns-7
-returns-7 c = c .before .before .judged2 .ensures
+returns-7 c = c .before .before .behind .ensures
 
 pub launch-spec : {M : Type 1} → statement M
 launch-spec =
@@ -93,11 +93,11 @@ launch-spec =
     returns-4
     refused-at-requires-5
     returns-5
-    read-file-requires
-    enum-known-g
-    judged-requires
+    front-of-requires
     enum-known-p
-    judged-requires-2
+    judged-requires
+    enum-known-g
+    behind-requires
     same-length
     returns-6
     same-length-2

@@ -1,7 +1,7 @@
 -- `launch::make` meets its contract: the opened table is sound, and the s_groups are made on it.
 -- Assumes nothing.
 use borrow.Author.Needs.{needs}
-use mathlib.Core.Path.{refl, ap, _∙_}
+use mathlib.Core.Path.{ap, _∙_}
 use Rattle.semantics.specs.Sizes.{names-per-group}
 use Rattle.semantics.specs.Test.{sound}
 use Rattle.semantics.specs.Agree.{test-regular}
@@ -19,8 +19,8 @@ create-requires c κs =
     let ok = ap (sound names-per-group) (c .before .before .before .«open» .ensures .1) ∙ opened-sound _ _ _ (a .pre .0) in
     (test-regular names-per-group _ ok .2, (ok, a .pre .1))
 
-done-requires : tie.Need-done-requires
-done-requires c κs = search needs
+through-requires : tie.Need-through-requires
+through-requires c κs = search needs
 
 same-length : tie.Need-same-length
 same-length c = search needs
@@ -28,7 +28,7 @@ same-length c = search needs
 returns : tie.Need-returns
 returns c =
     let o = c .before .before .before .before .before .before .before in
-    (c .done .ensures, refl, c .before .before .before .create .ensures ∙ ap (created _) (o .«open» .ensures .1))
+    (c .through .ensures .0, c .through .ensures .1, c .before .before .before .create .ensures ∙ ap (created _) (o .«open» .ensures .1))
 
 pub make-spec : {M : Type 1} → statement M
-make-spec = tie.close (tie.spec open-requires create-requires done-requires same-length returns)
+make-spec = tie.close (tie.spec open-requires create-requires through-requires same-length returns)

@@ -4,7 +4,6 @@ use answers::Reason;
 use answers::Value;
 use answers::done;
 use answers::refused;
-use book::INDEX_SIZE;
 use launch_file::Reading;
 use layout::GROUP_LIMIT;
 use layout::NODE_LIMIT;
@@ -70,15 +69,14 @@ fn judged(
     ensures { λ r. ⌜ r .place ≡ launch n hidden start (now (book .entry)) (now (file .entry)) (now (t .entry)) .place ⌝ }
     ensures { λ _. ⌜ now (t .exit) ≡ launch n hidden start (now (book .entry)) (now (file .entry)) (now (t .entry)) .table ⌝ }
 {
-    let mut index = [0u8; INDEX_SIZE];
-    if !book::fit(book, n, &mut index) {
+    if !plain_book::fits(book, n) {
         return refused_at(Reason::NoLaunchFile, 0);
     }
     if !whole {
         return refused_at(Reason::NoLaunchFile, place);
     }
     let mut words = [0u64; PLAN_WORDS];
-    match plan::plan_of(file, place, book, n, &index, start, &mut words) {
+    match plan::plan_of(file, place, book, n, start, &mut words) {
         Plan::Clash => refused_at(Reason::GroupsDiffer, 0),
         Plan::Unknown => refused_at(Reason::AtomUnknown, 0),
         Plan::TooMany => refused_at(Reason::GroupsFull, 0),

@@ -94,7 +94,7 @@ pub fn unlisted(text: &[u8], g: usize, book: &[u8], n: u32) -> Spot {
         let Found::Group(s, e, m, next) = next_group(text, j, 0 < count) else {
             return Spot::Nowhere;
         };
-        if duplicates::made(text, g, false, count, part(text, s, e), m) {
+        if duplicates::made(text, g, count, part(text, s, e), m) {
             match unlisted_in(text, s, e, m, book, n) {
                 Spot::Group(from, to) => return Spot::Group(from, to),
                 Spot::Node(from, to) => return Spot::Node(from, to),

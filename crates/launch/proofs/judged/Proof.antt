@@ -10,35 +10,28 @@ use Rattle.launch.specs.Launches.{by-plan, no-book, no-file-at, planned,
 use Rattle.launch.proofs.judged.Statement.{statement}
 use Rattle.launch.proofs.judged.Tie as tie
 
-slice-aggregate-fit : tie.Need-slice-aggregate-fit
-slice-aggregate-fit c = search needs
-
-fit-requires : tie.Need-fit-requires
-fit-requires c κs = search needs
+fits-requires : tie.Need-fits-requires
+fits-requires c κs = search needs
 
 refused-at-requires : tie.Need-refused-at-requires
 refused-at-requires c κs = search needs
 
 returns : tie.Need-returns
 returns c =
-    refuses-so (no-book _ _ _ _ _ _ (c .before .before .before .before .before .before .before .before .pre .0) (sym (c .before .before .before .fit .ensures .0) ∙ not-true _ (c .before .if1 .taken))) (c .refused-at .ensures)
+    refuses-so (no-book _ _ _ _ _ _ (c .before .before .before .before .before .before .pre .0) (sym (c .before .before .fits2 .ensures) ∙ not-true _ (c .before .if1 .taken))) (c .refused-at .ensures)
 
 refused-at-requires-2 : tie.Need-refused-at-requires-2
 refused-at-requires-2 c κs = search needs
 
 returns-2 : tie.Need-returns-2
 returns-2 c =
-    refuses-so (no-file-at _ _ _ _ _ _ (c .before .before .before .before .before .before .before .before .before .pre .0) (sym (c .before .before .before .before .fit .ensures .0) ∙ not-false _ (c .before .before .if1 .left)) _ (c .before .before .before .before .before .before .before .before .before .pre .1 .is-none (not-true _ (c .before .if2 .taken)))) (c .refused-at2 .ensures)
+    refuses-so (no-file-at _ _ _ _ _ _ (c .before .before .before .before .before .before .before .pre .0) (sym (c .before .before .before .fits2 .ensures) ∙ not-false _ (c .before .before .if1 .left)) _ (c .before .before .before .before .before .before .before .pre .1 .is-none (not-true _ (c .before .if2 .taken)))) (c .refused-at2 .ensures)
 
 slice-aggregate-plan-of : tie.Need-slice-aggregate-plan-of
 slice-aggregate-plan-of c = search needs
 
-slice-aggregate-plan-of-2 : tie.Need-slice-aggregate-plan-of-2
-slice-aggregate-plan-of-2 c = search needs
-
 plan-of-requires : tie.Need-plan-of-requires
-plan-of-requires c κs =
-    (c .before .before .before .before .before .fit .ensures .1 (not-false _ (c .before .before .before .if1 .left)), search needs)
+plan-of-requires c κs = (sym (c .before .before .before .fits2 .ensures) ∙ not-false _ (c .before .before .if1 .left), search needs)
 
 enum-told : tie.Need-enum-told
 enum-told c = search needs
@@ -75,24 +68,24 @@ slice-aggregate-make c =
 
 make-requires : tie.Need-make-requires
 make-requires c κs =
-    (c .before .before .before .before .before .before .before .before .before .before .before .before .before .before .before .before .before .pre .0 .opens, rw (c .before .before .before .before .before .before .plan-of .ensures .1 _ (c .before .before .before .count .given .1)) (words-narrow _ _ (sym (c .before .before .before .before .before .before .before .before .before .before .before .before .fit .ensures .0) ∙ not-false _ (c .before .before .before .before .before .before .before .before .before .before .if1 .left)) _ (fits _ _ _ _ _ (sym (c .before .before .before .count .given .1) ∙ c .before .before .before .before .before .before .plan-of .ensures .0) .known)))
+    (c .before .before .before .before .before .before .before .before .before .before .before .before .before .before .pre .0 .opens, rw (c .before .before .before .before .before .before .plan-of .ensures .1 _ (c .before .before .before .count .given .1)) (words-narrow _ _ (sym (c .before .before .before .before .before .before .before .before .before .before .fits2 .ensures) ∙ not-false _ (c .before .before .before .before .before .before .before .before .before .if1 .left)) _ (fits _ _ _ _ _ (sym (c .before .before .before .count .given .1) ∙ c .before .before .before .before .before .before .plan-of .ensures .0) .known)))
 
 returns-3 : tie.Need-returns-3
 returns-3 c =
     refuses-so
-    (planned _ _ _ _ _ _ (c .before .before .before .before .before .before .before .before .before .before .before .before .before .before .before .pre .0) (sym (c .before .before .before .before .before .before .before .before .before .before .fit .ensures .0) ∙ not-false _ (c .before .before .before .before .before .before .before .before .if1 .left)) _ (c .before .before .before .before .before .before .before .before .before .before .before .before .before .before .before .pre .1 .is-file (not-false _ (c .before .before .before .before .before .before .before .if2 .left)))
+    (planned _ _ _ _ _ _ (c .before .before .before .before .before .before .before .before .before .before .before .before .pre .0) (sym (c .before .before .before .before .before .before .before .before .fits2 .ensures) ∙ not-false _ (c .before .before .before .before .before .before .before .if1 .left)) _ (c .before .before .before .before .before .before .before .before .before .before .before .before .pre .1 .is-file (not-false _ (c .before .before .before .before .before .before .if2 .left)))
     ∙ ap (by-plan _ _ _ _ _) (sym (c .before .before .before .before .plan-of .ensures .0) ∙ c .before .enum-told .given .1)) (c .refused-at3 .ensures)
 
 returns-4 : tie.Need-returns-4
 returns-4 c =
     refuses-so
-    (planned _ _ _ _ _ _ (c .before .before .before .before .before .before .before .before .before .before .before .before .before .before .before .pre .0) (sym (c .before .before .before .before .before .before .before .before .before .before .fit .ensures .0) ∙ not-false _ (c .before .before .before .before .before .before .before .before .if1 .left)) _ (c .before .before .before .before .before .before .before .before .before .before .before .before .before .before .before .pre .1 .is-file (not-false _ (c .before .before .before .before .before .before .before .if2 .left)))
+    (planned _ _ _ _ _ _ (c .before .before .before .before .before .before .before .before .before .before .before .before .pre .0) (sym (c .before .before .before .before .before .before .before .before .fits2 .ensures) ∙ not-false _ (c .before .before .before .before .before .before .before .if1 .left)) _ (c .before .before .before .before .before .before .before .before .before .before .before .before .pre .1 .is-file (not-false _ (c .before .before .before .before .before .before .if2 .left)))
     ∙ ap (by-plan _ _ _ _ _) (sym (c .before .before .before .before .plan-of .ensures .0) ∙ c .before .enum-told2 .given .1)) (c .refused-at4 .ensures)
 
 returns-5 : tie.Need-returns-5
 returns-5 c =
     refuses-so
-    (planned _ _ _ _ _ _ (c .before .before .before .before .before .before .before .before .before .before .before .before .before .before .before .pre .0) (sym (c .before .before .before .before .before .before .before .before .before .before .fit .ensures .0) ∙ not-false _ (c .before .before .before .before .before .before .before .before .if1 .left)) _ (c .before .before .before .before .before .before .before .before .before .before .before .before .before .before .before .pre .1 .is-file (not-false _ (c .before .before .before .before .before .before .before .if2 .left)))
+    (planned _ _ _ _ _ _ (c .before .before .before .before .before .before .before .before .before .before .before .before .pre .0) (sym (c .before .before .before .before .before .before .before .before .fits2 .ensures) ∙ not-false _ (c .before .before .before .before .before .before .before .if1 .left)) _ (c .before .before .before .before .before .before .before .before .before .before .before .before .pre .1 .is-file (not-false _ (c .before .before .before .before .before .before .if2 .left)))
     ∙ ap (by-plan _ _ _ _ _) (sym (c .before .before .before .before .plan-of .ensures .0) ∙ c .before .enum-told3 .given .1)) (c .refused-at5 .ensures)
 
 same-length : tie.Need-same-length
@@ -101,7 +94,7 @@ same-length c = search needs
 returns-6 : tie.Need-returns-6
 returns-6 c =
     makes-so _ _ _ _ _ _
-    (planned _ _ _ _ _ _ (c .before .before .before .before .before .before .before .before .before .before .before .before .before .before .before .before .before .before .before .before .pre .0) (sym (c .before .before .before .before .before .before .before .before .before .before .before .before .before .before .before .fit .ensures .0) ∙ not-false _ (c .before .before .before .before .before .before .before .before .before .before .before .before .before .if1 .left)) _ (c .before .before .before .before .before .before .before .before .before .before .before .before .before .before .before .before .before .before .before .before .pre .1 .is-file (not-false _ (c .before .before .before .before .before .before .before .before .before .before .before .before .if2 .left)))
+    (planned _ _ _ _ _ _ (c .before .before .before .before .before .before .before .before .before .before .before .before .before .before .before .before .before .pre .0) (sym (c .before .before .before .before .before .before .before .before .before .before .before .before .before .fits2 .ensures) ∙ not-false _ (c .before .before .before .before .before .before .before .before .before .before .before .before .if1 .left)) _ (c .before .before .before .before .before .before .before .before .before .before .before .before .before .before .before .before .before .pre .1 .is-file (not-false _ (c .before .before .before .before .before .before .before .before .before .before .before .if2 .left)))
     ∙ ap (by-plan _ _ _ _ _) (sym (c .before .before .before .before .before .before .before .before .before .plan-of .ensures .0) ∙ c .before .before .before .before .before .before .count .given .1))
     (c .before .before .make .ensures) (c .before .before .before .before .before .before .before .before .before .plan-of .ensures .1 _ (c .before .before .before .before .before .before .count .given .1))
 
@@ -109,14 +102,12 @@ pub judged-spec : {M : Type 1} → statement M
 judged-spec =
     tie.close
     (tie.spec
-    slice-aggregate-fit
-    fit-requires
+    fits-requires
     refused-at-requires
     returns
     refused-at-requires-2
     returns-2
     slice-aggregate-plan-of
-    slice-aggregate-plan-of-2
     plan-of-requires
     enum-told
     refused-at-requires-3

@@ -31,7 +31,7 @@ part-requires : tie.Need-part-requires Inv-loop μ-loop
 part-requires c κs = search needs
 
 made-requires : tie.Need-made-requires Inv-loop μ-loop
-made-requires c κs = λ e. cc
+made-requires c κs = search needs
 
 unlisted-in-requires : tie.Need-unlisted-in-requires Inv-loop μ-loop
 unlisted-in-requires c κs = search needs

@@ -1,4 +1,4 @@
--- The lists of pairs, turn by turn, and the end of a file. Assumes nothing.
+-- The lists of pairs, turn by turn; the front of a file, its rest behind the groups, and its end. Assumes nothing.
 use mathlib.Core.Path.{_≡_, refl, ap, _∙_}
 use mathlib.Core.Bool.{Bool, true, false, cond}
 use mathlib.Core.List.{List, [], _∷_}
@@ -53,7 +53,7 @@ module _ (own t : List ℕ) (at : ℕ) (f : Phase) (j : ℕ) where
     own-entered n P = next (list-of own false) first-pair t at f j R false (Pair.Own n) P
 
   pub own-open : (n : ℕ) → Pair-read (list-of own false) f t j false (Pair.Closed n) → To-own own t at (Step.Stop n)
-  own-open n P = absurd (let z : _≡_ {A = ℕ} 0 1 = cc (P .on .1) in omega arith)
+  own-open n P = absurd (let z : _≡_ {A = ℕ} 0 1 = cc (P .on) in omega arith)
 
   -- up to the end: the own pair was found, so it does not stand there again
   module _ (R : Reached (list-of own true) next-pair t at f j) where
@@ -64,7 +64,7 @@ module _ (own t : List ℕ) (at : ℕ) (f : Phase) (j : ℕ) where
     end-left n P = next (list-of own true) next-pair t at f j R true (Pair.Closed n) P
 
   pub end-once : (n : ℕ) → Pair-read (list-of own true) f t j true (Pair.Own n) → To-end own t at (Step.Stop n)
-  end-once n P = absurd (let z : _≡_ {A = ℕ} 0 1 = cc (P .on .1) in omega arith)
+  end-once n P = absurd (let z : _≡_ {A = ℕ} 0 1 = cc (P .on) in omega arith)
 
 -- ---- the end of the file
 

@@ -12,7 +12,7 @@ use Rattle.values.specs.Skipping.{reached, over, Passed-over}
 use Rattle.values.specs.declared.Skip.{Skip}
 use Rattle.values.specs.declared.Skip.the-variants as Skip
 use Rattle.walk.specs.Walk.{part, sign-at, then-sign, atom-at, entry-at}
-use Rattle.walk.specs.Unfold.{step-on, sign-on, then-sign-on, atom-ahead, entry-on, entry-at-on}
+use Rattle.walk.specs.Unfold.{step-on, sign-on, atom-ahead, entry-on, entry-at-on}
 use Rattle.walk.specs.Atoms.{moved, passed, sign-read, then-sign-read, atom-read}
 use Rattle.walk.specs.Machine.{listed, first-read, next-read}
 use Rattle.walk.specs.declared.Step.{Step}
@@ -27,9 +27,9 @@ use Rattle.launch_file.specs.declared.Pair.the-variants as Pair
 
 -- behind a later place, so behind an earlier one
 pair-sooner : (t : List ℕ) (at i : ℕ) (found : Bool) → at ≤ i → (r : Pair) → pair-on t i found r → pair-on t at found r
-pair-sooner t at i found l (Pair.Own n) h = ((omega arith, h .0 .1), h .1)
+pair-sooner t at i found l (Pair.Own n) h = h
 pair-sooner t at i found l (Pair.Other n) h = (omega arith, h .1)
-pair-sooner t at i found l (Pair.Closed n) h = ((omega arith, h .0 .1), h .1)
+pair-sooner t at i found l (Pair.Closed n) h = h
 pair-sooner t at i found l (Pair.Stop p) h = tt
 
 -- ---- the own pair
@@ -61,11 +61,11 @@ own-goes-on t at e h = go (h .found)
 own-on : (t : List ℕ) (at e : ℕ) (found : Bool) → pair-on t at found (own-pair t at e found)
 unfolding own-pair
 own-on t at e true = tt
-own-on t at e false = go (then-sign t (sign-at t at (ascii comma)) (ascii open-list)) (then-sign-on t at (ascii open-list) (sign-at t at (ascii comma)) (sign-on t at (ascii comma)))
+own-on t at e false = go (then-sign t (sign-at t at (ascii comma)) (ascii open-list))
   where
-    go : (r : Step) → step-on t at r → pair-on t at false (own-to r)
-    go (Step.Past n) h = (h, refl)
-    go (Step.Stop p) h = tt
+    go : (r : Step) → pair-on t at false (own-to r)
+    go (Step.Past n) = refl
+    go (Step.Stop p) = tt
 
 -- ---- another pair, behind its key
 
@@ -176,7 +176,7 @@ module _ (t : List ℕ) (at : ℕ) (begun : Bool) (own : List ℕ) (found : Bool
       record { goes-on = λ h s. there (Entry.Group n) e h ∙ P .goes-on h s; on = pair-sooner t at n found (omega arith) r (P .on) }
 
   pub next-closed : (n : ℕ) → entry-at t at begun ≡ Entry.Closed n → found ≡ true → Pair-read (list-of own found) (cond begun next-pair first-pair) t at found (Pair.Closed n)
-  next-closed n e f = record { goes-on = λ h s. there (Entry.Closed n) e h ∙ rw (← s .1, f); on = (further-on (Entry.Closed n) e, f) }
+  next-closed n e f = record { goes-on = λ h s. there (Entry.Closed n) e h ∙ rw (← s .1, f); on = f }
 
   pub next-missing : (n : ℕ) → entry-at t at begun ≡ Entry.Closed n → found ≡ false → Pair-read (list-of own found) (cond begun next-pair first-pair) t at found (Pair.Stop (n - 1))
   next-missing n e f = record { goes-on = λ h s. there (Entry.Closed n) e h ∙ rw (← s .1, f); on = tt }

@@ -43,11 +43,11 @@ paired h t (Pair.Other n) = from h [] next-pair t n
 paired h t (Pair.Closed n) = from (left (h .groups)) [] (behind-list (h .level)) t n
 paired h t (Pair.Stop p) = refused p
 
--- what is read lies ahead; the own pair stands once, and the list ends behind it alone
+-- behind another pair the text goes on ahead; the own pair stands once, and the list ends behind it alone
 abbrev pub pair-on : List ℕ → ℕ → Bool → Pair → Type 0
-pair-on t at found (Pair.Own n) = ahead t at n × (found ≡ false)
+pair-on t at found (Pair.Own n) = found ≡ false
 pair-on t at found (Pair.Other n) = ahead t at n
-pair-on t at found (Pair.Closed n) = ahead t at n × (found ≡ true)
+pair-on t at found (Pair.Closed n) = found ≡ true
 pair-on t at found (Pair.Stop p) = Unit {0}
 
 -- in a list with this own key, whose own pair has stood or not; in any list

@@ -90,7 +90,8 @@ fn next_pair(text: &[u8], at: usize, begun: bool, own: &[u8], found: bool) -> Pa
     }
 }
 
-// From behind the bracket of a list with this own key: the place behind the bracket of its own entry, or where it stops.
+// From behind the bracket of a list with this own key: the place behind the bracket of its own entry, or where it stops. The list
+// does not end in front of its own pair.
 fn to_own(text: &[u8], at: usize, own: &[u8]) -> Step
     ensures { λ r. ⌜ To-own (now (own .entry)) (now (text .entry)) at r ⌝ }
 {
@@ -109,7 +110,8 @@ fn to_own(text: &[u8], at: usize, own: &[u8]) -> Step
     }
 }
 
-// From behind the own pair of a list with this own key: the place behind the list, or where it stops.
+// From behind the own pair of a list with this own key: the place behind the list, or where it stops. The own pair does not stand
+// there again.
 fn to_end(text: &[u8], at: usize, own: &[u8]) -> Step
     ensures { λ r. ⌜ To-end (now (own .entry)) (now (text .entry)) at r ⌝ }
 {
@@ -153,7 +155,7 @@ pub fn front(text: &[u8]) -> Step
     }
 }
 
-// The rest of a file whose groups begin at g.
+// The rest of a file whose groups begin at g: whether it is one to its end.
 pub fn rest(text: &[u8], g: usize) -> Reading
     ensures { λ r. ⌜ Rest-read (now (text .entry)) g r ⌝ }
 {

@@ -4,7 +4,10 @@ use mathlib.Core.Path.{_≡_, refl, sym, _∙_}
 use Prim.Native.Nat.{ℕ, _-_}
 use native.Mathlib.Omega.{arith}
 use lib.ListN.{length, length-set}
+use Rattle.walk.specs.Walk.{head-at, entry-at}
 use Rattle.walk.specs.Unfold.{group-ahead, head-ahead, nodes-ahead}
+use Rattle.walk.specs.declared.Atom.the-variants as Atom
+use Rattle.walk.specs.declared.Entry.the-variants as Entry
 use Rattle.gathering.specs.Turns.{Taken, taken-none, taken-more, taken-all}
 use Rattle.gathering.proofs.gather.Statement.{statement}
 use Rattle.gathering.proofs.gather.Tie as tie
@@ -14,6 +17,13 @@ Inv-loop text g book n index words₀ k₀ j₀ begun₀ words k j begun = Taken
 
 abbrev μ-loop : tie.MeasureT-loop
 μ-loop text g book n index words₀ k₀ j₀ begun₀ words k j begun = length text - j
+
+-- at j a group opens, whose front is its name and what leads to its nodes
+opens : (c : tie.After-front Inv-loop μ-loop) → let l = c .before .before .before .loop in entry-at (c .before .before .before .before .before .before .before .before .args .text .now) (l .j) (l .begun) ≡ Entry.Group (c .front .given .0 .0)
+opens c = sym (c .before .before .entry-at .ensures) ∙ c .front .given .1
+
+headed : (c : tie.After-s Inv-loop μ-loop) → let r = c .s .given .0 in head-at (c .before .before .before .before .before .before .before .before .before .before .before .before .args .text .now) (c .before .before .before .before .front .given .0 .0) ≡ Atom.Is (r .0) (r .1 .0) (r .1 .1 .0)
+headed c = sym (c .before .before .head-at .ensures) ∙ c .s .given .1
 
 loop-holds : tie.Need-loop-holds Inv-loop μ-loop
 loop-holds c = taken-none _ _ _ _ _ (c .before .before .before .before .pre .1)
@@ -64,13 +74,13 @@ enum-known-s : tie.Need-enum-known-s Inv-loop μ-loop
 enum-known-s c = search needs
 
 sub-group-of : tie.Need-sub-group-of Inv-loop μ-loop
-sub-group-of c = head-ahead _ _ _ _ _ (sym (c .before .before .before .head-at .ensures) ∙ c .before .s .given .1) .1 .0
+sub-group-of c = head-ahead _ _ _ _ _ (headed (c .before)) .1 .0
 
 part-group-of-start : tie.Need-part-group-of-start Inv-loop μ-loop
-part-group-of-start c = head-ahead _ _ _ _ _ (sym (c .before .before .before .head-at .ensures) ∙ c .before .s .given .1) .1 .0
+part-group-of-start c = head-ahead _ _ _ _ _ (headed (c .before)) .1 .0
 
 part-group-of-end : tie.Need-part-group-of-end Inv-loop μ-loop
-part-group-of-end c = head-ahead _ _ _ _ _ (sym (c .before .before .before .head-at .ensures) ∙ c .before .s .given .1) .1 .1
+part-group-of-end c = head-ahead _ _ _ _ _ (headed (c .before)) .1 .1
 
 group-of-requires : tie.Need-group-of-requires Inv-loop μ-loop
 group-of-requires c κs = search needs
@@ -143,28 +153,20 @@ add-k c = search needs
 
 loop-less : tie.Need-loop-less Inv-loop μ-loop
 loop-less c =
-    let p = c .before .before .before in
-    let f = c .before .before .before .before .before .before .before .before .before .before in
-    let h = f .before .before .before .before .before in
-    let e = h .before .before .before .before in
-    let opens = sym (e .entry-at .ensures) ∙ h .before .before .front .given .1 in
-    let head = sym (h .head-at .ensures) ∙ f .before .before .before .s .given .1 in
-    let peopled = p .nodes-at .ensures _ _ (c .before .set .given .1) in
-    let i = group-ahead _ _ _ _ opens in
-    let m = head-ahead _ _ _ _ _ head in
-    let n = nodes-ahead _ _ _ (peopled .past) in
+    let s = c .before .before .before .before .before .before .before .before .before .before .before .before .before in
+    let i = group-ahead _ _ _ _ (opens (s .before .before .before .before)) in
+    let m = head-ahead _ _ _ _ _ (headed s) in
+    let n = nodes-ahead _ _ _ (c .before .before .before .nodes-at .ensures _ _ (c .before .set .given .1) .past) in
     omega (arith, i .0, m .0 .0, n .0, n .1)
 
 loop-again : tie.Need-loop-again Inv-loop μ-loop
 loop-again c =
-    let p = c .before .before .before in
-    let f = c .before .before .before .before .before .before .before .before .before .before in
-    let h = f .before .before .before .before .before in
-    let e = h .before .before .before .before in
-    let opens = sym (e .entry-at .ensures) ∙ h .before .before .front .given .1 in
-    let head = sym (h .head-at .ensures) ∙ f .before .before .before .s .given .1 in
-    let peopled = p .nodes-at .ensures _ _ (c .before .set .given .1) in
-    taken-more _ _ _ _ _ _ _ _ (e .before .loop .inv) _ _ _ _ opens head _ (f .group-of .ensures) _ (c .before .before .before .before .before .before .before .before .before .group-count .ensures) (c .before .before .before .before .before .before .before .before .if1 .left) (c .before .before .before .before .before .before .before .if2 .left) (sym (c .before .before .before .before .before .seen .ensures) ∙ c .before .before .before .before .if3 .left) _ _ peopled _ refl
+    let p = c .before .before .before .before .before in
+    let q = p .before .before .before in
+    let s = q .before .before .before .before .before in
+    let new = sym (p .seen .ensures) ∙ c .before .before .before .before .if3 .left in
+    let nodes = c .before .before .before .nodes-at .ensures _ _ (c .before .set .given .1) in
+    taken-more _ _ _ _ _ _ _ _ (s .before .before .before .before .before .before .before .loop .inv) _ _ _ _ (opens (s .before .before .before .before)) (headed s) _ (q .before .before .group-of .ensures) _ (q .before .group-count .ensures) (q .if1 .left) (p .before .before .if2 .left) new _ _ nodes _ refl
 
 pub gather-spec : {M : Type 1} → statement M
 gather-spec =

@@ -4,7 +4,8 @@ use mathlib.Core.Path.{_≡_, sym, _∙_}
 use Prim.Native.Nat.{ℕ, _-_}
 use native.Mathlib.Omega.{arith}
 use lib.ListN.{length}
-use Rattle.walk.specs.Unfold.{ahead, inside, atom-ahead}
+use Rattle.walk.specs.Walk.{atom-at}
+use Rattle.walk.specs.Unfold.{atom-ahead}
 use Rattle.walk.specs.declared.Atom.the-variants as Atom
 use Rattle.gathering.specs.Gathering.{Noded}
 use Rattle.gathering.specs.Nodes.{noded-more, noded-last}
@@ -17,9 +18,9 @@ Inv-loop text at book n index set₀ j₀ set j = (s m : ℕ) → Noded n book t
 abbrev μ-loop : tie.MeasureT-loop
 μ-loop text at book n index set₀ j₀ set j = length text - j
 
--- the atom lies ahead, and its name within the text
-read : (c : tie.After-atom-at Inv-loop μ-loop) (s e m : ℕ) → c .atom-at .result ≡ Atom.Is s e m → let t = c .before .before .before .before .before .args .text .now in ahead t (c .before .loop .j) m × inside t s e
-read c s e m h = atom-ahead _ _ _ _ _ (sym (c .atom-at .ensures) ∙ h)
+-- at j an atom is read
+read : (c : tie.After-s Inv-loop μ-loop) → let r = c .s .given .0 in atom-at (c .before .before .before .before .before .before .before .args .text .now) (c .before .before .before .loop .j) ≡ Atom.Is (r .0) (r .1 .0) (r .1 .1 .0)
+read c = sym (c .before .before .atom-at .ensures) ∙ c .s .given .1
 
 loop-holds : tie.Need-loop-holds Inv-loop μ-loop
 loop-holds c = λ s m h. h
@@ -37,13 +38,13 @@ enum-known-s : tie.Need-enum-known-s Inv-loop μ-loop
 enum-known-s c = search needs
 
 sub-node-of : tie.Need-sub-node-of Inv-loop μ-loop
-sub-node-of c = read (c .before .before .before) _ _ _ (c .before .s .given .1) .1 .0
+sub-node-of c = atom-ahead _ _ _ _ _ (read (c .before)) .1 .0
 
 part-node-of-start : tie.Need-part-node-of-start Inv-loop μ-loop
-part-node-of-start c = read (c .before .before .before) _ _ _ (c .before .s .given .1) .1 .0
+part-node-of-start c = atom-ahead _ _ _ _ _ (read (c .before)) .1 .0
 
 part-node-of-end : tie.Need-part-node-of-end Inv-loop μ-loop
-part-node-of-end c = read (c .before .before .before) _ _ _ (c .before .s .given .1) .1 .1
+part-node-of-end c = atom-ahead _ _ _ _ _ (read (c .before)) .1 .1
 
 node-of-requires : tie.Need-node-of-requires Inv-loop μ-loop
 node-of-requires c κs = search needs
@@ -68,15 +69,17 @@ add-j c = search needs
 
 loop-less : tie.Need-loop-less Inv-loop μ-loop
 loop-less c =
-    let n = read (c .before .before .before .before .before .before .before .before .before .before .before) _ _ _ (c .before .before .before .before .before .before .before .before .before .s .given .1) in
+    let n = atom-ahead _ _ _ _ _ (read (c .before .before .before .before .before .before .before .before .before)) in
     omega (arith, n .0 .0, c .before .before .before .past-white .ensures, c .before .before .if2 .left)
 
 loop-again : tie.Need-loop-again Inv-loop μ-loop
 loop-again c =
-    let k = c .before .before .before .before .before .before in
-    let a = k .before .before .before .before .before in
-    λ s m h. a .before .loop .inv s m
-    (noded-more _ _ _ (a .before .before .before .before .before .pre .noted .fits) _ _ _ _ _ (sym (a .atom-at .ensures) ∙ k .before .before .before .s .given .1) _ (k .node-of .ensures) (c .before .before .before .before .before .if1 .left) _ (c .before .before .before .before .with .ensures) _ (c .before .before .before .past-white .ensures) (c .before .before .if2 .left) (c .if3 .taken) s m h)
+    let p = c .before .before .before in
+    let q = p .before .before .before in
+    let s = q .before .before .before in
+    λ r m h.
+    s .before .before .before .loop .inv r m
+    (noded-more _ _ _ (s .before .before .before .before .before .before .before .pre .noted .fits) _ _ _ _ _ (read s) _ (q .node-of .ensures) (p .before .before .if1 .left) _ (p .before .with .ensures) _ (p .past-white .ensures) (c .before .before .if2 .left) (c .if3 .taken) r m h)
 
 sign-at-requires : tie.Need-sign-at-requires Inv-loop μ-loop
 sign-at-requires c κs = search needs
@@ -89,14 +92,16 @@ enum-known-next c = search needs
 
 returns-4 : tie.Need-returns-4 Inv-loop μ-loop
 returns-4 c =
-    let k = c .before .before .before .before .before .before .before .before .before .before .before in
-    let a = k .before .before .before .before .before in
-    let q = rw (c .before .before .before .before .sign-at .ensures) at (sym (c .before .before .before .then-sign .ensures) ∙ c .before .next .given .1) in
-    let n = noded-last _ _ _ (a .before .before .before .before .before .pre .noted .fits) _ _ _ _ _ (sym (a .atom-at .ensures) ∙ k .before .before .before .s .given .1) _ (k .node-of .ensures) (c .before .before .before .before .before .before .before .before .before .before .if1 .left) _ (c .before .before .before .before .before .before .before .before .before .with .ensures) _ (c .before .before .before .before .before .before .before .before .past-white .ensures) (c .before .before .before .before .before .before .before .if2 .left) (c .before .before .before .before .before .if3 .left) _ q in
-    λ s m h.
-    let x : c .before .before .before .before .before .before .before .before .before .with .result ≡ s = cc in
+    let o = c .before .before .before .before .before in
+    let p = o .before .before .before in
+    let q = p .before .before .before in
+    let s = q .before .before .before in
+    let ends = rw (c .before .before .before .before .sign-at .ensures) at (sym (c .before .before .before .then-sign .ensures) ∙ c .before .next .given .1) in
+    let last = noded-last _ _ _ (s .before .before .before .before .before .before .before .pre .noted .fits) _ _ _ _ _ (read s) _ (q .node-of .ensures) (p .before .before .if1 .left) _ (p .before .with .ensures) _ (p .past-white .ensures) (o .before .before .if2 .left) (o .if3 .left) _ ends in
+    λ r m h.
+    let x : p .before .with .result ≡ r = cc in
     let y : c .before .next .given .0 .0 ≡ m = cc in
-    a .before .loop .inv s m (rw (x, y) at n)
+    s .before .before .before .loop .inv r m (rw (x, y) at last)
 
 enum-told-2 : tie.Need-enum-told-2 Inv-loop μ-loop
 enum-told-2 c = search needs

@@ -4,14 +4,19 @@ mod why;
 ghost use mathlib.Core.Path.{_≡_};
 ghost use Prim.Native.Nat.{min};
 ghost use lib.ListN.{length, take};
-ghost use Rattle.refusal_head.specs.Refusal.{slip, refusal-head};
+ghost use Rattle.refusal_head.specs.Refusal.{refusal-head};
 use answers::Reason;
+use launch_expected::front;
 use refusal_head::is_slip;
 use refusal_head::put_head;
-use launch_expected::front;
 use why::put_why;
 
-pub use why::Asked;
+// The numbers of a launch: how many nodes there are, which of them are hidden, which one is started.
+pub struct Asked {
+    pub n: u32,
+    pub hidden: u64,
+    pub start: u32,
+}
 
 // The lesser of two numbers.
 fn least(a: usize, b: usize) -> usize
@@ -33,8 +38,8 @@ pub fn put_refusal(
     room: &mut [u8],
     len: usize,
 ) -> usize
-    ensures { λ r. ⌜ take (length (refusal-head reason place (slip reason place (asked .n) (now (book .entry))) (now (name .entry)) (take len (now (room .entry))))) (take r (now (out .exit)))
-        ≡ take (length (now (out .entry))) (refusal-head reason place (slip reason place (asked .n) (now (book .entry))) (now (name .entry)) (take len (now (room .entry)))) ⌝ }
+    ensures { λ r. ⌜ take (length (refusal-head reason place (asked .n) (now (book .entry)) (now (name .entry)) (take len (now (room .entry))))) (take r (now (out .exit)))
+        ≡ take (length (now (out .entry))) (refusal-head reason place (asked .n) (now (book .entry)) (now (name .entry)) (take len (now (room .entry)))) ⌝ }
 {
     let slip = is_slip(reason, place, book, asked.n);
     let p = put_head(out, reason, place, slip, name, front(room, len));

@@ -1,6 +1,6 @@
 // Why a launch is refused, in words.
+use crate::Asked;
 use answers::Reason;
-use refusal_head::put_place;
 use launch_expected::front;
 use launch_expected::put_expected;
 use launch_faults::Fault;
@@ -9,16 +9,10 @@ use launch_faults::part;
 use launch_file::Reading;
 use print::put_bytes;
 use print::put_number;
+use refusal_head::put_place;
 
 // So many bytes of an atom are shown; no book has a longer one.
 const SHOWN: usize = 64;
-
-// The numbers of a launch: how many nodes there are, which of them are hidden, which one is started.
-pub struct Asked {
-    pub n: u32,
-    pub hidden: u64,
-    pub start: u32,
-}
 
 // ---- the numbers
 

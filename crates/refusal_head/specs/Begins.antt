@@ -1,4 +1,4 @@
--- Laws of `refusal-head` and `slip`, and of a run that begins with some bytes, as far as it has room for them. Assumes nothing.
+-- Laws of `head-lines` and `slip`, and of a run that begins with some bytes, as far as it has room for them. Assumes nothing.
 use mathlib.Core.Path.{_≡_, refl, sym, ap, _∙_}
 use mathlib.Core.Bool.{Bool, true, false, cond}
 use mathlib.Core.List.{List, [], _∷_, _++_, append-nil}
@@ -18,7 +18,7 @@ use Rattle.print.specs.Printed.{decimal}
 use Rattle.print.specs.Sheets.{Sheet, sheet, put-one, put}
 use Rattle.print.specs.Putting.{put-append, put-fits, put-front}
 use Rattle.book.specs.Book.{fit}
-use Rattle.refusal_head.specs.Refusal.{error-line, place-words, slip, refusal-head}
+use Rattle.refusal_head.specs.Refusal.{error-line, place-words, slip, head-lines}
 
 -- ---- the head
 
@@ -45,7 +45,7 @@ module _ (r : Reason) (n m : ℕ) (e : n ≡ number r) (f : m ≡ number NoLaunc
     unfolding slip
     slip-fit l = rw (← e, eq-eqb 18 n (sym (h ∙ f)), le-ltb 0 p l)
 
-pub same-head : (r : Reason) (p : ℕ) (t u : Bool) (name f g : List ℕ) → t ≡ u → f ≡ g → refusal-head r p t name f ≡ refusal-head r p u name g
+pub same-head : (r : Reason) (p : ℕ) (t u : Bool) (name f g : List ℕ) → t ≡ u → f ≡ g → head-lines r p t name f ≡ head-lines r p u name g
 same-head r p t u name f g d e = rw (d, e)
 
 -- ---- a run that begins with some bytes

@@ -24,5 +24,9 @@ unfoldable pub slip : Reason → ℕ → ℕ → List ℕ → Bool
 slip r p n book = among r (NoLaunchFile ∷ []) && (ltb 0 p || fit n book)
 
 -- the first line, and of a slip the place in its file
-unfoldable pub refusal-head : Reason → ℕ → Bool → List ℕ → List ℕ → List ℕ
-refusal-head r p t name file = error-line r p ++ cond t (place-words name file p ++ bytes "expected ") []
+unfoldable pub head-lines : Reason → ℕ → Bool → List ℕ → List ℕ → List ℕ
+head-lines r p t name file = error-line r p ++ cond t (place-words name file p ++ bytes "expected ") []
+
+-- what is determined of a refusal, for n nodes with their book and a file of this name
+abbrev pub refusal-head : Reason → ℕ → ℕ → List ℕ → List ℕ → List ℕ → List ℕ
+refusal-head r p n book name file = head-lines r p (slip r p n book) name file

@@ -1,7 +1,7 @@
 // What of a refusal is determined by its answer: the reason, the place, and the line and column of a slip.
 ghost use mathlib.Core.Path.{_≡_};
 ghost use Rattle.print.specs.Sheets.{sheet, put};
-ghost use Rattle.refusal_head.specs.Refusal.{error-line, place-words, slip, refusal-head};
+ghost use Rattle.refusal_head.specs.Refusal.{error-line, place-words, slip, head-lines};
 use answers::Reason;
 use print::put_bytes;
 use print::put_number;
@@ -52,7 +52,7 @@ pub fn put_head(
     name: &[u8],
     text: &[u8],
 ) -> usize
-    ensures { λ r. ⌜ sheet (now (out .exit)) r ≡ put (sheet (now (out .entry)) 0) (refusal-head reason place slip (now (name .entry)) (now (text .entry))) ⌝ }
+    ensures { λ r. ⌜ sheet (now (out .exit)) r ≡ put (sheet (now (out .entry)) 0) (head-lines reason place slip (now (name .entry)) (now (text .entry))) ⌝ }
 {
     let p = put_error(out, reason, place);
     if slip {

@@ -7,19 +7,25 @@ use Rattle.answers.specs.Answers.{refuses}
 use Rattle.semantics.specs.Sizes.{names-per-group, table-words}
 use Rattle.launch.specs.Launch.{Launch, launch}
 use Rattle.launch_report.specs.Launched.{launched-lines}
-use Rattle.refusal_head.specs.Refusal.{slip, refusal-head}
+use Rattle.refusal_head.specs.Refusal.{refusal-head}
+use Rattle.launch_refusals.specs.declared.Asked.{Asked}
 
--- the launch of a file, into a run of zeros
-unfoldable pub launched : ℕ → ℕ → ℕ → List ℕ → List ℕ → Launch
-launched N hidden start book file = launch N hidden start book file (replicate (table-words names-per-group) 0)
+-- the launch of a file with the numbers asked for, into a run of zeros
+unfoldable pub launched : Asked → List ℕ → List ℕ → Launch
+launched q book file = launch (q .n) (q .hidden) (q .start) book file (replicate (table-words names-per-group) 0)
 
 -- what is said of a launch: all of it where it goes through, and otherwise the reason, the place, and of a slip its line and column in the file of this name
-unfoldable pub report-of : Launch → ℕ → ℕ → List ℕ → List ℕ → List ℕ → List ℕ
-report-of l N start book name file =
-    cond (refuses (l .answer .reason))
-    (refusal-head (l .answer .reason) (l .place) (slip (l .answer .reason) (l .place) N book) name file)
-    (launched-lines book N start (l .table))
+unfoldable pub told : Launch → Asked → List ℕ → List ℕ → List ℕ → List ℕ
+told l q book name file =
+    cond (refuses (l .answer .reason)) (refusal-head (l .answer .reason) (l .place) (q .n) book name file) (launched-lines book (q .n) (q .start) (l .table))
 
--- how many of the r bytes said that is: all, or of a refusal those in front of the sentence
-unfoldable pub sure-of : Launch → List ℕ → ℕ → ℕ
-sure-of l told r = cond (refuses (l .answer .reason)) (length told) r
+-- how many of r bytes these are: all, or of a refusal those in front of its sentence
+unfoldable pub sure : Launch → Asked → List ℕ → List ℕ → List ℕ → ℕ → ℕ
+sure l q book name file r = cond (refuses (l .answer .reason)) (length (told l q book name file)) r
+
+-- what the program says
+abbrev pub report : Asked → List ℕ → List ℕ → List ℕ → List ℕ
+report q book name file = told (launched q book file) q book name file
+
+abbrev pub report-sure : Asked → List ℕ → List ℕ → List ℕ → ℕ → ℕ
+report-sure q book name file r = sure (launched q book file) q book name file r

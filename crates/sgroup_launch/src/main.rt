@@ -1,7 +1,7 @@
 // The program `sgroup_launch`: launches a table from a book and a launch file, and says which s_groups it has, or why the launch is refused.
 ghost use mathlib.Core.Path.{_≡_};
 ghost use lib.ListN.{length, take};
-ghost use Rattle.sgroup_launch.specs.Report.{launched, report-of, sure-of};
+ghost use Rattle.sgroup_launch.specs.Report.{report, report-sure};
 use launch_expected::front;
 use launch_refusals::Asked;
 use libc::STDERR_FILENO;
@@ -145,8 +145,8 @@ fn put_report(
     room: &mut [u8],
     len: usize,
 ) -> usize
-    ensures { λ r. ⌜ take (sure-of (launched (asked .n) (asked .hidden) (asked .start) (now (book .entry)) (take len (now (room .entry)))) (report-of (launched (asked .n) (asked .hidden) (asked .start) (now (book .entry)) (take len (now (room .entry)))) (asked .n) (asked .start) (now (book .entry)) (now (name .entry)) (take len (now (room .entry)))) r) (take r (now (out .exit)))
-        ≡ take (length (now (out .entry))) (report-of (launched (asked .n) (asked .hidden) (asked .start) (now (book .entry)) (take len (now (room .entry)))) (asked .n) (asked .start) (now (book .entry)) (now (name .entry)) (take len (now (room .entry)))) ⌝ }
+    ensures { λ r. ⌜ take (report-sure asked (now (book .entry)) (now (name .entry)) (take len (now (room .entry))) r) (take r (now (out .exit)))
+        ≡ take (length (now (out .entry))) (report asked (now (book .entry)) (now (name .entry)) (take len (now (room .entry)))) ⌝ }
 {
     let mut table = [0u64; layout::TABLE_WORDS];
     let launched = launch::launch(
@@ -190,7 +190,15 @@ fn run_named(
     let Loaded::Text(len) = load(name, FILE_LIMIT, room) else {
         return;
     };
-    let said = put_report(out, asked, book_name, front(book, book_len), name, room, len);
+    let said = put_report(
+        out,
+        asked,
+        book_name,
+        front(book, book_len),
+        name,
+        room,
+        len,
+    );
     if !io::write_all(STDOUT_FILENO, front(out, said)) {
         os::fail(b"sgroup_launch: the output cannot be written");
     }

@@ -5,7 +5,7 @@ use mathlib.Core.Path.{ap, _∙_}
 use mathlib.Core.List.{append-nil}
 use Rattle.print.specs.Sheets.{put}
 use Rattle.print.specs.Putting.{put-next}
-use Rattle.refusal_head.specs.Refusal.{refusal-head}
+use Rattle.refusal_head.specs.Refusal.{head-lines}
 use Rattle.refusal_head.proofs.put_head.Statement.{statement}
 use Rattle.refusal_head.proofs.put_head.Tie as tie
 
@@ -25,7 +25,7 @@ same-length : tie.Need-same-length
 same-length c = search needs
 
 returns : tie.Need-returns
-unfolding refusal-head
+unfolding head-lines
 returns c =
     rw (c .before .before .before .before .before .before .before .before .before .if1 .taken)
     (put-next _ _ _ _ _ (c .before .before .before .before .before .before .before .before .before .before .before .before .put-error .ensures) (put-next _ _ _ _ _ (c .before .before .before .before .before .before .before .put-place .ensures) (c .before .before .put-bytes .ensures)))
@@ -34,7 +34,7 @@ same-length-2 : tie.Need-same-length-2
 same-length-2 c = search needs
 
 returns-2 : tie.Need-returns-2
-unfolding refusal-head
+unfolding head-lines
 returns-2 c = rw (c .if1 .left, append-nil) (c .before .before .before .put-error .ensures)
 
 pub put-head-spec : {M : Type 1} → statement M

@@ -1,22 +1,21 @@
 -- Laws of `head-lines` and `slip`, and of a run that begins with some bytes, as far as it has room for them. Assumes nothing.
 use mathlib.Core.Path.{_≡_, refl, sym, ap, _∙_}
-use mathlib.Core.Bool.{Bool, true, false, cond}
+use mathlib.Core.Bool.{Bool, true, false}
 use mathlib.Core.List.{List, [], _∷_, _++_, append-nil}
 use Prim.Native.Nat.{ℕ, zero, suc, _+_, _-_, _≤_, _<_}
-use native.Mathlib.Nat.{zero-add}
 use native.Mathlib.Omega.{arith}
 use borrow.Author.Tests.{eq-eqb, ne-eqb, lt-ltb, le-ltb, leb-true, leb-false}
-use lib.Dec.{eqb, leb}
-use lib.ListN.{length, take, drop, set, length-append, length-take, length-drop, drop-of-length-le, take-append-drop}
-use lib.Seq.{set-out, take-all, take-length, take-append-seam, take-append-add, length-take-le}
+use lib.Dec.{leb}
+use lib.ListN.{length, take, drop, length-take, length-drop, drop-of-length-le}
+use lib.Seq.{take-all, take-append-seam, take-append-add, length-take-le}
 use Rattle.text.specs.Text.{bytes}
 use Rattle.answers.specs.Answers.{number}
 use Rattle.answers.specs.declared.Reason.{Reason}
 use Rattle.answers.specs.declared.Reason.the-variants.{NoLaunchFile}
 use Rattle.position.specs.Position.{line-of, column-of}
 use Rattle.print.specs.Printed.{decimal}
-use Rattle.print.specs.Sheets.{Sheet, sheet, put-one, put}
-use Rattle.print.specs.Putting.{put-append, put-fits, put-front}
+use Rattle.print.specs.Sheets.{sheet, put}
+use Rattle.print.specs.Putting.{put-said}
 use Rattle.book.specs.Book.{fit}
 use Rattle.refusal_head.specs.Refusal.{error-line, place-words, slip, head-lines}
 
@@ -50,27 +49,7 @@ same-head r p t u name f g d e = rw (d, e)
 
 -- ---- a run that begins with some bytes
 
--- a full run stays as it is
-put-full : (l : List ℕ) (i : ℕ) (a : List ℕ) → length l ≤ i → put (sheet l i) a ≡ sheet l i
-unfolding put put-one sheet
-put-full l i [] h = refl
-put-full l i (x ∷ a) h = rw (set-out l i x h, le-ltb i (length l) h) (put-full l i a h)
-
--- a run takes as many bytes as it is long
-put-whole : (l a : List ℕ) → put (sheet l 0) a ≡ put (sheet l 0) (take (length l) a)
-put-whole l a = go (leb (length a) (length l)) refl
-  where
-    go : (t : Bool) → leb (length a) (length l) ≡ t → put (sheet l 0) a ≡ put (sheet l 0) (take (length l) a)
-    go true e = ap (put (sheet l 0)) (sym (take-all (length l) a (leb-true _ _ e)))
-    go false e =
-        let n : length (take (length l) a) ≡ length l = length-take-le (length l) a (omega (arith, leb-false (length a) (length l) e)) in
-        let b : List ℕ = take (length l) a in
-        let x : List ℕ = take 0 l ++ b ++ drop (0 + length b) l in
-        let f : put (sheet l 0) b ≡ sheet x (0 + length b) = put-fits l 0 b (omega arith) in
-        let w : length x ≤ 0 + length b = omega (arith, length-append b (drop (0 + length b) l), length-drop (0 + length b) l) in
-        ap (put (sheet l 0)) (sym (take-append-drop (length l) a)) ∙ sym (put-append (sheet l 0) b (drop (length l) a))
-        ∙ ap (λ (q : Sheet). put q (drop (length l) a)) f ∙ put-full x (0 + length b) (drop (length l) a) w ∙ sym f
-
+-- nothing is taken of nothing
 none : (m : ℕ) (t : List ℕ) → length t ≤ 0 → take m t ≡ []
 none zero t h = refl
 none (suc m) [] h = refl
@@ -79,11 +58,10 @@ none (suc m) (x ∷ t) h = absurd (omega arith)
 module _ (l o : List ℕ) (p : ℕ) (a : List ℕ) (e : sheet o p ≡ put (sheet l 0) a) where
   -- what stands in front of the place: the bytes, as far as there is room
   begun : (take p o ≡ take (length l) a) × (p ≡ length (take (length l) a))
-  unfolding sheet
   begun =
-      let n : 0 + length (take (length l) a) ≤ length l = omega (arith, length-take (length l) a) in
-      let f = put-front (sheet l 0) (take (length l) a) n in
-      (ap (λ (q : Sheet). take (q .at) (q .bytes)) (e ∙ put-whole l a) ∙ f .0, ap (λ (q : Sheet). q .at) (e ∙ put-whole l a) ∙ f .1 ∙ zero-add _)
+      let s = put-said l o 0 p a (omega arith) e in
+      let z : length l - 0 ≡ length l = omega arith in
+      (rw z at (s .front), rw z at (s .place))
 
   pub said-whole : take p (take p o) ≡ take (length l) a
   said-whole = take-all p (take p o) (omega (arith, length-take p o)) ∙ begun .0

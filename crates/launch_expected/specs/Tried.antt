@@ -1,18 +1,20 @@
 -- Laws of `follows`: what the reader says of the text that is tried, and that trying keeps what stands in front of the place. Assumes nothing.
 use mathlib.Core.Path.{_≡_, refl, sym, ap, _∙_}
 use mathlib.Core.Bool.{Bool, true, false, _&&_}
-use mathlib.Core.List.{List, [], _∷_, _++_}
+use mathlib.Core.List.{List, [], _∷_, _++_, append-nil}
 use Prim.Native.Nat.{ℕ, zero, suc, _+_, _-_, _≤_, _<_}
+use native.Mathlib.Nat.{le-refl}
 use native.Mathlib.Numerals.{add-one}
 use native.Mathlib.Omega.{arith}
-use borrow.Author.Tests.{le-leb, lt-leb}
+use borrow.Author.Tests.{le-leb, lt-leb, leb-true}
 use lib.Dec.{leb}
 use lib.ListN.{length, getD, take, drop}
-use lib.Seq.{drop-cons}
+use lib.Seq.{drop-cons, take-length}
 use Rattle.nodes.specs.Sets.{with-node}
 use Rattle.print.specs.Sheets.{sheet, put}
 use Rattle.print.specs.Putting.{put-said}
-use Rattle.grammar.specs.File.{Outcome, taken, refused, outcome}
+use Rattle.grammar.specs.Place.{Shares, refused-place}
+use Rattle.grammar.specs.File.{Group, Outcome, taken, refused, outcome}
 use Rattle.launch_file.specs.Reading.{read-as}
 use Rattle.launch_file.specs.declared.Reading.{Reading}
 use Rattle.launch_expected.specs.Following.{unrefused, begins, follows, following}
@@ -58,3 +60,26 @@ module _ (l o : List ℕ) (p : ℕ) (bs : List ℕ) (i : ℕ) (h : i < length bs
   pub without-byte : t ≡ false → set ≡ following l p bs (i + 1)
   unfolding following
   without-byte f = rw (add-one, next-follows ∙ f) s
+
+-- ---- what it means
+
+-- a text that begins some launch file can be made one by more bytes
+pub begins-shares : (t : List ℕ) → begins t ≡ true → Shares t (length t)
+unfolding begins Shares
+begins-shares t = go (outcome t) refl
+  where
+    go : (o : Outcome) → outcome t ≡ o → unrefused (length t) o ≡ true → (s : List ℕ) × (gs : List Group) × (outcome (take (length t) t ++ s) ≡ taken gs)
+    go (taken gs) e h = ([], gs, rw (take-length, append-nil) e)
+    go (refused p) e h =
+        let w = refused-place t p e in
+        let k : p ≡ length t = omega (arith, leb-true (length t) p h, w .within) in
+        rw (← k) (w .shared)
+
+-- and one that cannot is none that begins one
+pub shares-begins : (t : List ℕ) → Shares t (length t) → begins t ≡ true
+unfolding begins
+shares-begins t s = go (outcome t) refl
+  where
+    go : (o : Outcome) → outcome t ≡ o → unrefused (length t) o ≡ true
+    go (taken gs) e = refl
+    go (refused p) e = le-leb (length t) p (refused-place t p e .most (length t) (le-refl (length t)) s)

@@ -1,22 +1,14 @@
 // What is said of a launch that is refused: the reason, the place, and a sentence.
-mod why;
-
 ghost use mathlib.Core.Path.{_≡_};
 ghost use Prim.Native.Nat.{min};
 ghost use lib.ListN.{length, take};
 ghost use Rattle.refusal_head.specs.Refusal.{refusal-head};
 use answers::Reason;
 use launch_expected::front;
+use launch_why::Asked;
+use launch_why::put_why;
 use refusal_head::is_slip;
 use refusal_head::put_head;
-use why::put_why;
-
-// The numbers of a launch: how many nodes there are, which of them are hidden, which one is started.
-pub struct Asked {
-    pub n: u32,
-    pub hidden: u64,
-    pub start: u32,
-}
 
 // The lesser of two numbers.
 fn least(a: usize, b: usize) -> usize

@@ -8,7 +8,7 @@ use Rattle.semantics.specs.Sizes.{names-per-group, table-words}
 use Rattle.launch.specs.Launch.{Launch, launch}
 use Rattle.launch_report.specs.Launched.{launched-lines}
 use Rattle.refusal_head.specs.Refusal.{refusal-head}
-use Rattle.launch_refusals.specs.declared.Asked.{Asked}
+use Rattle.launch_why.specs.declared.Asked.{Asked}
 
 -- the launch of a file with the numbers asked for, into a run of zeros
 unfoldable pub launched : Asked → List ℕ → List ℕ → Launch

@@ -14,7 +14,7 @@ use Rattle.launch.specs.Launch.{Launch, launch}
 use Rattle.launch_report.specs.Launched.{launched-lines}
 use Rattle.refusal_head.specs.Refusal.{refusal-head}
 use Rattle.refusal_head.specs.Begins.{said-whole}
-use Rattle.launch_refusals.specs.declared.Asked.{Asked}
+use Rattle.launch_why.specs.declared.Asked.{Asked}
 use Rattle.sgroup_launch.specs.Report.{launched, told, sure}
 
 -- what the number of a reason says

@@ -3,7 +3,7 @@ ghost use mathlib.Core.Path.{_≡_};
 ghost use lib.ListN.{length, take};
 ghost use Rattle.sgroup_launch.specs.Report.{report, report-sure};
 use launch_expected::front;
-use launch_refusals::Asked;
+use launch_why::Asked;
 use libc::STDERR_FILENO;
 use libc::STDOUT_FILENO;
 use text::Half;

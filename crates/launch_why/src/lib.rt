@@ -1,5 +1,4 @@
 // Why a launch is refused, in words.
-use crate::Asked;
 use answers::Reason;
 use launch_expected::front;
 use launch_expected::put_expected;
@@ -13,6 +12,13 @@ use refusal_head::put_place;
 
 // So many bytes of an atom are shown; no book has a longer one.
 const SHOWN: usize = 64;
+
+// The numbers of a launch: how many nodes there are, which of them are hidden, which one is started.
+pub struct Asked {
+    pub n: u32,
+    pub hidden: u64,
+    pub start: u32,
+}
 
 // ---- the numbers
 
@@ -156,6 +162,22 @@ fn put_torn(out: &mut [u8], at: usize, name: &[u8], text: &[u8], g: usize, node:
     }
 }
 
+// An atom of the file that is not where it should be, before or behind the first n lines of the book.
+fn put_astray(
+    out: &mut [u8],
+    at: usize,
+    name: &[u8],
+    text: &[u8],
+    from: usize,
+    to: usize,
+    words: &[u8],
+    n: u32,
+) -> usize {
+    let p = put_spot(out, at, name, text, from, to, words);
+    let p = put_number(out, p, n as u64);
+    put_bytes(out, p, b" lines of the book\n")
+}
+
 // The atom that is not in its part of the book.
 fn put_unlisted(
     out: &mut [u8],
@@ -167,8 +189,26 @@ fn put_unlisted(
     n: u32,
 ) -> usize {
     match launch_faults::unlisted(text, g, book, n) {
-        Spot::Group(s, e) => put_spot(out, at, name, text, s, e, b" is no s_group of the book\n"),
-        Spot::Node(s, e) => put_spot(out, at, name, text, s, e, b" is no node of the book\n"),
+        Spot::Group(s, e) => put_astray(
+            out,
+            at,
+            name,
+            text,
+            s,
+            e,
+            b" is no s_group: it does not stand behind the first ",
+            n,
+        ),
+        Spot::Node(s, e) => put_astray(
+            out,
+            at,
+            name,
+            text,
+            s,
+            e,
+            b" is no node: it is not among the first ",
+            n,
+        ),
         Spot::Nowhere => at,
     }
 }

@@ -218,19 +218,19 @@ groups '{g,normal,[a,b]}' '{h,normal,[c]}' '{g,normal,[a,b,b]}' "{'g2',normal,[a
 printf "ok 0\ngroup 1 'g' 'a' 'b'\ngroup 2 'h' 'c'\nown 2 'h'\n" >expected
 prints "groups of one name" 0 expected x.book x.config 3 0 2
 groups '{g,normal,[a]}' "{h,normal,[b,'no node',x]}"
-refuses 20 0 "x.config:1:51: 'no node' is no node of the book" x.book x.config 3 0 0
+refuses 20 0 "x.config:1:51: 'no node' is no node: it is not among the first 3 lines of the book" x.book x.config 3 0 0
 groups '{a,normal,[a]}'
-refuses 20 0 "x.config:1:23: 'a' is no s_group of the book" x.book x.config 3 0 0
+refuses 20 0 "x.config:1:23: 'a' is no s_group: it does not stand behind the first 3 lines of the book" x.book x.config 3 0 0
 groups '{g,normal,[g]}'
-refuses 20 0 "x.config:1:33: 'g' is no node of the book" x.book x.config 3 0 0
+refuses 20 0 "x.config:1:33: 'g' is no node: it is not among the first 3 lines of the book" x.book x.config 3 0 0
 groups '{g,normal,[c]}'
-refuses 20 0 "x.config:1:33: 'c' is no node of the book" x.book x.config 2 0 0
+refuses 20 0 "x.config:1:33: 'c' is no node: it is not among the first 2 lines of the book" x.book x.config 2 0 0
 groups "{'${long}0',normal,[a]}"
-refuses 20 0 "x.config:1:24: '$long..' is no s_group of the book" x.book x.config 3 0 0
+refuses 20 0 "x.config:1:24: '$long..' is no s_group: it does not stand behind the first 3 lines of the book" x.book x.config 3 0 0
 groups $'{\'a\n\t\x1b[1m\',normal,[a]}'
-refuses 20 0 "x.config:1:24: 'a???[1m' is no s_group of the book" x.book x.config 3 0 0
+refuses 20 0 "x.config:1:24: 'a???[1m' is no s_group: it does not stand behind the first 3 lines of the book" x.book x.config 3 0 0
 groups "{'',normal,[a]}"
-refuses 20 0 "x.config:1:24: '' is no s_group of the book" x.book x.config 3 0 0
+refuses 20 0 "x.config:1:24: '' is no s_group: it does not stand behind the first 3 lines of the book" x.book x.config 3 0 0
 # an atom that is not in the book does no harm in a group that is not made
 groups '{x,normal,[a]}' '{x,normal,[b]}' '{g,normal,[c]}'
 printf "ok 0\ngroup 1 'g' 'c'\nown 1 'g'\n" >expected

@@ -1,6 +1,9 @@
 // What a launch file has at the place where a text stops being one, in words. The reader is asked: it reads the text in front of the place with other bytes behind it.
 ghost use mathlib.Core.Path.{_≡_};
-ghost use lib.ListN.{take};
+ghost use Prim.Native.Nat.{min};
+ghost use lib.ListN.{length, take};
+ghost use Rattle.nodes.specs.NodeSets.{node-limit};
+ghost use Rattle.launch_expected.specs.Following.{follows, following};
 use launch_file::Reading;
 use nodes::NODE_LIMIT;
 use print::put_bytes;
@@ -16,7 +19,13 @@ pub fn front(run: &[u8], len: usize) -> &[u8]
 }
 
 // Whether some launch file begins with the text in front of the place and these bytes, which are written there.
-fn fits(room: &mut [u8], place: usize, bytes: &[u8]) -> bool {
+fn fits(room: &mut [u8], place: usize, bytes: &[u8]) -> bool
+    ensures { λ r. ⌜ r ≡ follows (now (room .entry)) place (now (bytes .entry)) ⌝ }
+    ensures { λ _. ⌜ take place (now (room .exit)) ≡ take place (now (room .entry)) ⌝ }
+{
+    if room.len() < place {
+        return false;
+    }
     let end = put_bytes(room, place, bytes);
     match reader::read_file(front(room, end)) {
         Reading::Whole(_) => true,
@@ -25,7 +34,10 @@ fn fits(room: &mut [u8], place: usize, bytes: &[u8]) -> bool {
 }
 
 // Which of some bytes fit at the place, as a set of their numbers.
-fn fitting(room: &mut [u8], place: usize, bytes: &[u8]) -> u64 {
+fn fitting(room: &mut [u8], place: usize, bytes: &[u8]) -> u64
+    ensures { λ r. ⌜ r ≡ following (now (room .entry)) place (now (bytes .entry)) (min node-limit (length (now (bytes .entry)))) ⌝ }
+    ensures { λ _. ⌜ take place (now (room .exit)) ≡ take place (now (room .entry)) ⌝ }
+{
     let mut set: u64 = 0;
     let mut i: u32 = 0;
     while i < NODE_LIMIT {

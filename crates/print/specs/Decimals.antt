@@ -86,7 +86,7 @@ spaced-end p s i h = rw (drop-of-length-le s h)
 
 -- ---- how long a line can be
 
-decimal-few : (k n : ℕ) → length (decimal-in k n) ≤ suc k
+pub decimal-few : (k n : ℕ) → length (decimal-in k n) ≤ suc k
 unfolding decimal-in
 decimal-few zero n = omega arith
 decimal-few (suc k) n = pick (ltb n 10) (decimal-few k (n / 10))

@@ -1,8 +1,9 @@
 // The program `sgroup_launch`: launches a table from a book and a launch file, and says which s_groups it has, or why the launch is refused.
-use answers::Value;
-use launch::Launched;
+ghost use mathlib.Core.Path.{_≡_};
+ghost use lib.ListN.{length, take};
+ghost use Rattle.sgroup_launch.specs.Report.{report, report-sure};
 use launch_expected::front;
-use launch_refusals::Asked;
+use launch_why::Asked;
 use libc::STDERR_FILENO;
 use libc::STDOUT_FILENO;
 use text::Half;
@@ -124,47 +125,29 @@ fn load(path: &[u8], limit: usize, room: &mut [u8]) -> Loaded {
     Loaded::Text(len)
 }
 
-// Reads the file that an argument names.
-fn load_arg(i: usize, limit: usize, room: &mut [u8]) -> Loaded {
-    let mut path = io::buffer();
-    let len = os::arg(i, &mut path);
+// Writes the name of a file, which is an argument, into a run.
+fn name_arg(i: usize, name: &mut [u8]) -> Loaded {
+    let len = os::arg(i, name);
     if os::errno() != 0 {
         complain_of(b"the name of a file");
         return Loaded::Nothing;
     }
-    load(&path[..len], limit, room)
+    Loaded::Text(len)
 }
 
-// Puts what is to be said of a launch that is refused.
-fn put_refused(
+// Launches, and puts what is to be said of it. The file stands in the first bytes of the room, so many; of a slip, those from its place on are lost.
+fn put_report(
     out: &mut [u8],
-    launched: Launched,
     asked: Asked,
+    book_name: &[u8],
     book: &[u8],
+    name: &[u8],
     room: &mut [u8],
     len: usize,
-) -> usize {
-    let answer = launched.answer;
-    let reason = answer.reason;
-    let mut book_name = io::buffer();
-    let b = os::arg(BOOK_ARG, &mut book_name);
-    let mut name = io::buffer();
-    let f = os::arg(FILE_ARG, &mut name);
-    launch_refusals::put_refusal(
-        out,
-        reason,
-        launched.place,
-        asked,
-        &book_name[..b],
-        book,
-        &name[..f],
-        room,
-        len,
-    )
-}
-
-// Launches, and puts what is to be said of it.
-fn put_report(out: &mut [u8], asked: Asked, book: &[u8], room: &mut [u8], len: usize) -> usize {
+) -> usize
+    ensures { λ r. ⌜ take (report-sure asked (now (book .entry)) (now (name .entry)) (take len (now (room .entry))) r) (take r (now (out .exit)))
+        ≡ take (length (now (out .entry))) (report asked (now (book .entry)) (now (name .entry)) (take len (now (room .entry)))) ⌝ }
+{
     let mut table = [0u64; layout::TABLE_WORDS];
     let launched = launch::launch(
         &mut table,
@@ -175,25 +158,53 @@ fn put_report(out: &mut [u8], asked: Asked, book: &[u8], room: &mut [u8], len: u
         front(room, len),
     );
     let answer = launched.answer;
-    let value = answer.value;
-    match value {
-        Value::Ok => launch_report::put_launched(out, &table, book, asked.n, asked.start),
-        _ => put_refused(out, launched, asked, book, room, len),
+    let reason = answer.reason;
+    if answers::number(reason) == 0 {
+        return launch_report::put_launched(out, book, asked.n, asked.start, &table);
     }
+    launch_refusals::put_refusal(
+        out,
+        reason,
+        launched.place,
+        asked,
+        book_name,
+        book,
+        name,
+        room,
+        len,
+    )
 }
 
-// Reads the file into its room, launches, and writes out what is said of it.
-fn run_file(asked: Asked, book: &[u8], room: &mut [u8], out: &mut [u8]) {
-    let Loaded::Text(len) = load_arg(FILE_ARG, FILE_LIMIT, room) else {
+// Reads the book and the file of these names into their rooms, launches, and writes out what is said of it.
+fn run_named(
+    asked: Asked,
+    book_name: &[u8],
+    name: &[u8],
+    book: &mut [u8],
+    room: &mut [u8],
+    out: &mut [u8],
+) {
+    let Loaded::Text(book_len) = load(book_name, BOOK_LIMIT, book) else {
         return;
     };
-    let said = put_report(out, asked, book, room, len);
+    let Loaded::Text(len) = load(name, FILE_LIMIT, room) else {
+        return;
+    };
+    let said = put_report(
+        out,
+        asked,
+        book_name,
+        front(book, book_len),
+        name,
+        room,
+        len,
+    );
     if !io::write_all(STDOUT_FILENO, front(out, said)) {
         os::fail(b"sgroup_launch: the output cannot be written");
     }
 }
 
-// Reads the arguments and the book into its room, then the file.
+// Reads the arguments, then the texts into their rooms.
 fn run(book: &mut [u8], room: &mut [u8], out: &mut [u8]) {
     if os::arg_count() != ARG_COUNT {
         complain(b"usage: sgroup_launch BOOK FILE N HIDDEN START");
@@ -202,10 +213,22 @@ fn run(book: &mut [u8], room: &mut [u8], out: &mut [u8]) {
     let Numbers::Given(asked) = asked_numbers() else {
         return;
     };
-    let Loaded::Text(len) = load_arg(BOOK_ARG, BOOK_LIMIT, book) else {
+    let mut book_name = io::buffer();
+    let Loaded::Text(b) = name_arg(BOOK_ARG, &mut book_name) else {
         return;
     };
-    run_file(asked, front(book, len), room, out);
+    let mut name = io::buffer();
+    let Loaded::Text(f) = name_arg(FILE_ARG, &mut name) else {
+        return;
+    };
+    run_named(
+        asked,
+        front(&book_name, b),
+        front(&name, f),
+        book,
+        room,
+        out,
+    );
 }
 
 // Lends the room for the book, the file and what is said of them.

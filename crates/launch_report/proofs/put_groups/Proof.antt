@@ -1,27 +1,25 @@
--- `launch_report::put_groups` is safe and ends: a run of the length of a table has every word that is read.
+-- `launch_report::put_groups` meets its contract: all lines behind what was there is what is left of them behind what is there now.
 -- Assumes nothing.
 use borrow.Author.Needs.{needs}
-use mathlib.Core.Path.{_≡_}
-use Prim.Native.Nat.{_-_}
-use lib.ListN.{length}
-use Rattle.semantics.specs.Sizes.{group-limit, names-per-group, table-words}
+use mathlib.Core.Path.{_≡_, sym, _∙_}
+use Prim.Native.Nat.{_≤_, _-_}
+use native.Mathlib.Omega.{arith}
+use lib.ListN.{length, drop}
+use Rattle.print.specs.Sheets.{sheet, put}
+use Rattle.launch_report.specs.Launched.{group-lines}
+use Rattle.launch_report.specs.Telling.{bare, groups-turn, groups-end}
 use Rattle.launch_report.proofs.put_groups.Statement.{statement}
 use Rattle.launch_report.proofs.put_groups.Tie as tie
 
 abbrev Inv-loop : tie.InvT-loop
-Inv-loop out₀ at table book n p₀ i₀ out p i = (length out ≡ length out₀) × (length table ≡ table-words names-per-group)
+Inv-loop out₀ at book n contents members p₀ i₀ out p i =
+    (i ≤ length contents) × (length out ≡ length out₀) × (put (sheet out₀ at) (group-lines book n (bare contents members)) ≡ put (sheet out p) (group-lines book n (bare (drop i contents) (drop i members))))
 
 abbrev μ-loop : tie.MeasureT-loop
-μ-loop out₀ at table book n p₀ i₀ out p i = group-limit - i
-
-returns : tie.Need-returns Inv-loop μ-loop
-returns c = search needs
+μ-loop out₀ at book n contents members p₀ i₀ out p i = length contents - i
 
 loop-holds : tie.Need-loop-holds Inv-loop μ-loop
 loop-holds c = search needs
-
-add-s : tie.Need-add-s Inv-loop μ-loop
-add-s c = search needs
 
 mul-s : tie.Need-mul-s Inv-loop μ-loop
 mul-s c = search needs
@@ -29,14 +27,8 @@ mul-s c = search needs
 shared-slice-read-s : tie.Need-shared-slice-read-s Inv-loop μ-loop
 shared-slice-read-s c = search needs
 
-same-length : tie.Need-same-length Inv-loop μ-loop
-same-length c = search needs
-
-returns-2 : tie.Need-returns-2 Inv-loop μ-loop
-returns-2 c = search needs
-
-add-put-group-line : tie.Need-add-put-group-line Inv-loop μ-loop
-add-put-group-line c = search needs
+cast-put-group-line : tie.Need-cast-put-group-line Inv-loop μ-loop
+cast-put-group-line c = search needs
 
 mul-put-group-line : tie.Need-mul-put-group-line Inv-loop μ-loop
 mul-put-group-line c = search needs
@@ -54,13 +46,15 @@ loop-less : tie.Need-loop-less Inv-loop μ-loop
 loop-less c = search needs
 
 loop-again : tie.Need-loop-again Inv-loop μ-loop
-loop-again c = search needs
+loop-again c =
+    let t = c .before .before .before .before .before .before in
+    (search needs, search needs, t .before .loop .inv .2 ∙ groups-turn _ _ _ _ _ _ _ (t .loop-test .taken) (omega (arith, t .loop-test .taken, c .before .before .before .before .before .before .before .before .before .before .before .before .pre)) (c .before .before .put-group-line .ensures))
 
-same-length-2 : tie.Need-same-length-2 Inv-loop μ-loop
-same-length-2 c = search needs
+same-length : tie.Need-same-length Inv-loop μ-loop
+same-length c = search needs
 
-returns-3 : tie.Need-returns-3 Inv-loop μ-loop
-returns-3 c = search needs
+returns : tie.Need-returns Inv-loop μ-loop
+returns c = sym (c .before .loop .inv .2 ∙ groups-end _ _ _ _ _ _ (c .loop-test .left))
 
 pub put-groups-spec : {M : Type 1} → statement M
 put-groups-spec =
@@ -68,19 +62,15 @@ put-groups-spec =
     (tie.spec
     Inv-loop
     μ-loop
-    returns
     loop-holds
-    add-s
     mul-s
     shared-slice-read-s
-    same-length
-    returns-2
-    add-put-group-line
+    cast-put-group-line
     mul-put-group-line
     shared-slice-read-put-group-line
     put-group-line-requires
     add-i
     loop-less
     loop-again
-    same-length-2
-    returns-3)
+    same-length
+    returns)

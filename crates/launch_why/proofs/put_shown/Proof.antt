@@ -1,11 +1,11 @@
--- `launch_refusals::put_shown` is safe and ends: each turn puts a byte of the atom.
+-- `launch_why::put_shown` is safe and ends: each turn puts a byte of the atom.
 -- Assumes nothing.
 use borrow.Author.Needs.{needs}
 use mathlib.Core.Path.{_≡_}
 use Prim.Native.Nat.{_-_}
 use lib.ListN.{length}
-use Rattle.launch_refusals.proofs.put_shown.Statement.{statement}
-use Rattle.launch_refusals.proofs.put_shown.Tie as tie
+use Rattle.launch_why.proofs.put_shown.Statement.{statement}
+use Rattle.launch_why.proofs.put_shown.Tie as tie
 
 abbrev Inv-loop : tie.InvT-loop
 Inv-loop out₀ at atom p₀ i₀ t7 t8 out p i = length out ≡ length out₀

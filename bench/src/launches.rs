@@ -14,11 +14,12 @@ const RANDOM: u64 = 20_000;
 const CHANGED: u64 = 10_000;
 /// The reasons that come up among them.
 const REASONS: [u32; 8] = [0, 1, 2, 7, 16, 18, 19, 20];
-/// Different files of a row, so many that no branch predictor learns them.
+/// Different files of a row, so many that no branch predictor learns them; one, where the book is so long that a launch takes a good part of a second.
 const FILES: usize = 8;
+const LONG_BOOK: usize = 10_000;
 /// Rounds of a row: as many as take this time, within bounds.
 const ROUND_NANOS: u64 = 300_000_000;
-const FEWEST_ROUNDS: u64 = 5;
+const FEWEST_ROUNDS: u64 = 2;
 const MOST_ROUNDS: u64 = 2_000;
 
 const NODES: usize = 64;
@@ -251,7 +252,9 @@ fn deep_value(prng: &mut Prng) -> Launch {
 fn deep_end(prng: &mut Prng) -> Launch {
     let mut given = launch(prng, MAIN);
     given.file.truncate(given.file.len() - "].\n".len());
-    given.file.extend_from_slice(format!(",\n {}].\n", deep_pair()).as_bytes());
+    given
+        .file
+        .extend_from_slice(format!(",\n {}].\n", deep_pair()).as_bytes());
     given
 }
 
@@ -302,7 +305,8 @@ fn timed(all: &[Launch]) -> (f64, f64) {
 pub fn times(seed: u64) {
     let mut prng = Prng::new(seed);
     let mut sized = |size: Size| {
-        let all: Vec<Launch> = (0..FILES).map(|_| launch(&mut prng, size)).collect();
+        let files = if size.lines < LONG_BOOK { FILES } else { 1 };
+        let all: Vec<Launch> = (0..files).map(|_| launch(&mut prng, size)).collect();
         let Size {
             groups,
             nodes,
@@ -322,7 +326,7 @@ pub fn times(seed: u64) {
         sized(Size { nodes, ..MAIN });
     }
     heading("a launch as the book grows");
-    for lines in [100, 1_000, 10_000, MOST_LINES] {
+    for lines in [100, 1_000, LONG_BOOK, MOST_LINES] {
         sized(Size { lines, ..MAIN });
     }
     heading("launches there to take long");
@@ -333,8 +337,8 @@ pub fn times(seed: u64) {
 
 fn hard(prng: &mut Prng) -> [(&'static str, Launch); 7] {
     [
+        ("500 groups of one name and list", repeated(prng, 500)),
         ("1,000 groups of one name and list", repeated(prng, 1_000)),
-        ("10,000 groups of one name and list", repeated(prng, 10_000)),
         ("a skipped value of 100,000 bytes", long_value(prng)),
         ("a value nested to depth 16", deep_value(prng)),
         ("another pair behind the groups", deep_end(prng)),

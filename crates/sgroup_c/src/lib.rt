@@ -3,13 +3,17 @@ ghost use mathlib.Core.Path.{_≡_};
 ghost use mathlib.Core.List.{[]};
 ghost use Rattle.semantics.specs.Sizes.{names-per-group};
 ghost use Rattle.commands.specs.declared.Command.the-variants.{RegisterName, ReRegisterName, UnregisterName, RegisteredNames, WhereisName, WhereisNameAt, Send, SendName, SendAt, NewSGroup, AddNodes, RemoveNodes, DeleteSGroup, OwnNodes, OwnSGroups};
+ghost use Rattle.commands.specs.declared.Command.{Command};
+ghost use Rattle.forms.specs.Forms.{command-of};
+ghost use Rattle.forms.specs.declared.Formed.the-variants.{Is};
 ghost use Rattle.semantics.specs.Call.{opening};
 ghost use Rattle.semantics.specs.Test.{sound};
 ghost use Rattle.answer_words.specs.AnswerWords.{told, commanded};
+ghost use Rattle.answer_words.specs.Told.{TellsTable};
 ghost use Rattle.launch.specs.Launch.{launch};
 ghost use Rattle.sgroup_c.specs.LaunchWords.{launch-told};
 use answer_words::put;
-use commands::Command;
+use forms::Formed;
 
 // How many words an answer takes: its kind, two numbers, the number of its reason.
 const ANSWER_WORDS: usize = 4;
@@ -66,17 +70,30 @@ pub extern "C" fn sgroup_launch(
     reason
 }
 
-// A command, with its answer in the run `answer` and no run for a list.
-fn commanded(table: &mut [u64], caller: u32, command: Command, answer: &mut [u64]) -> u32
-    ensures { λ r. ⌜ r ≡ commanded caller command (now (answer .entry)) [] (now (table .entry)) .returned ⌝ }
-    ensures { λ _. ⌜ now (answer .exit) ≡ commanded caller command (now (answer .entry)) [] (now (table .entry)) .answer ⌝ }
-    ensures { λ _. ⌜ now (table .exit) ≡ commanded caller command (now (answer .entry)) [] (now (table .entry)) .table ⌝ }
+// The command of a number, with its answer in the run `answer` and no run for a list: its arguments of 32 bits are a, b and c in their order, and set is
+// its set of nodes. The command is made here of these, so that it is never stored: two fields that are stored apart and read as one word wait for memory.
+fn commanded(
+    table: &mut [u64],
+    answer: &mut [u64],
+    caller: u32,
+    number: u32,
+    a: u32,
+    b: u32,
+    c: u32,
+    set: u64,
+) -> u32
+    ensures { λ r. ⌜ ((command : Command) → command-of number a b c set ≡ Is command → TellsTable (commanded caller command (now (answer .entry)) [] (now (table .entry))) r (now (answer .exit)) (now (table .exit))) ⌝ }
 {
     if answer.len() < ANSWER_WORDS {
         return NO_ROOM;
     }
-    let mut none = [0u64; 0];
-    put(answer, sgroup::call(table, &mut none, caller, command))
+    match forms::command_of(number, a, b, c, set) {
+        Formed::Is(command) => {
+            let mut none = [0u64; 0];
+            put(answer, sgroup::call(table, &mut none, caller, command))
+        }
+        Formed::Nothing => NO_ROOM,
+    }
 }
 
 // Registers the pid under the name in the s_group.
@@ -93,7 +110,7 @@ pub extern "C" fn sgroup_register_name(
     ensures { λ _. ⌜ now (answer .exit) ≡ commanded caller (RegisterName s n p) (now (answer .entry)) [] (now (table .entry)) .answer ⌝ }
     ensures { λ _. ⌜ now (table .exit) ≡ commanded caller (RegisterName s n p) (now (answer .entry)) [] (now (table .entry)) .table ⌝ }
 {
-    commanded(table, caller, Command::RegisterName { s, n, p }, answer)
+    commanded(table, answer, caller, forms::REGISTER_NAME, s, n, p, 0)
 }
 
 // Registers the pid under the name in the s_group, in place of the one that the name had.
@@ -110,7 +127,7 @@ pub extern "C" fn sgroup_re_register_name(
     ensures { λ _. ⌜ now (answer .exit) ≡ commanded caller (ReRegisterName s n p) (now (answer .entry)) [] (now (table .entry)) .answer ⌝ }
     ensures { λ _. ⌜ now (table .exit) ≡ commanded caller (ReRegisterName s n p) (now (answer .entry)) [] (now (table .entry)) .table ⌝ }
 {
-    commanded(table, caller, Command::ReRegisterName { s, n, p }, answer)
+    commanded(table, answer, caller, forms::RE_REGISTER_NAME, s, n, p, 0)
 }
 
 // Takes the name out of the s_group's namespace.
@@ -126,7 +143,7 @@ pub extern "C" fn sgroup_unregister_name(
     ensures { λ _. ⌜ now (answer .exit) ≡ commanded caller (UnregisterName s n) (now (answer .entry)) [] (now (table .entry)) .answer ⌝ }
     ensures { λ _. ⌜ now (table .exit) ≡ commanded caller (UnregisterName s n) (now (answer .entry)) [] (now (table .entry)) .table ⌝ }
 {
-    commanded(table, caller, Command::UnregisterName { s, n }, answer)
+    commanded(table, answer, caller, forms::UNREGISTER_NAME, s, n, 0, 0)
 }
 
 // The names in the s_group, to the run `out`.
@@ -180,7 +197,7 @@ pub extern "C" fn sgroup_whereis_name_at(
     ensures { λ _. ⌜ now (answer .exit) ≡ commanded caller (WhereisNameAt node s n) (now (answer .entry)) [] (now (table .entry)) .answer ⌝ }
     ensures { λ _. ⌜ now (table .exit) ≡ commanded caller (WhereisNameAt node s n) (now (answer .entry)) [] (now (table .entry)) .table ⌝ }
 {
-    commanded(table, caller, Command::WhereisNameAt { node, s, n }, answer)
+    commanded(table, answer, caller, forms::WHEREIS_NAME_AT, node, s, n, 0)
 }
 
 // The caller sends to the pid, and connects with its host.
@@ -190,7 +207,7 @@ pub extern "C" fn sgroup_send(table: &mut [u64], caller: u32, p: u32, answer: &m
     ensures { λ _. ⌜ now (answer .exit) ≡ commanded caller (Send p) (now (answer .entry)) [] (now (table .entry)) .answer ⌝ }
     ensures { λ _. ⌜ now (table .exit) ≡ commanded caller (Send p) (now (answer .entry)) [] (now (table .entry)) .table ⌝ }
 {
-    commanded(table, caller, Command::Send { p }, answer)
+    commanded(table, answer, caller, forms::SEND, p, 0, 0, 0)
 }
 
 // The caller sends to the pid that it finds under the name in the s_group.
@@ -206,7 +223,7 @@ pub extern "C" fn sgroup_send_name(
     ensures { λ _. ⌜ now (answer .exit) ≡ commanded caller (SendName s n) (now (answer .entry)) [] (now (table .entry)) .answer ⌝ }
     ensures { λ _. ⌜ now (table .exit) ≡ commanded caller (SendName s n) (now (answer .entry)) [] (now (table .entry)) .table ⌝ }
 {
-    commanded(table, caller, Command::SendName { s, n }, answer)
+    commanded(table, answer, caller, forms::SEND_NAME, s, n, 0, 0)
 }
 
 // The caller sends to the pid that the node finds under the name in the s_group.
@@ -223,7 +240,7 @@ pub extern "C" fn sgroup_send_at(
     ensures { λ _. ⌜ now (answer .exit) ≡ commanded caller (SendAt node s n) (now (answer .entry)) [] (now (table .entry)) .answer ⌝ }
     ensures { λ _. ⌜ now (table .exit) ≡ commanded caller (SendAt node s n) (now (answer .entry)) [] (now (table .entry)) .table ⌝ }
 {
-    commanded(table, caller, Command::SendAt { node, s, n }, answer)
+    commanded(table, answer, caller, forms::SEND_AT, node, s, n, 0)
 }
 
 // A new s_group of the set.
@@ -239,7 +256,7 @@ pub extern "C" fn sgroup_new_s_group(
     ensures { λ _. ⌜ now (answer .exit) ≡ commanded caller (NewSGroup s set) (now (answer .entry)) [] (now (table .entry)) .answer ⌝ }
     ensures { λ _. ⌜ now (table .exit) ≡ commanded caller (NewSGroup s set) (now (answer .entry)) [] (now (table .entry)) .table ⌝ }
 {
-    commanded(table, caller, Command::NewSGroup { s, set }, answer)
+    commanded(table, answer, caller, forms::NEW_S_GROUP, s, 0, 0, set)
 }
 
 // The set joins the s_group.
@@ -255,7 +272,7 @@ pub extern "C" fn sgroup_add_nodes(
     ensures { λ _. ⌜ now (answer .exit) ≡ commanded caller (AddNodes s set) (now (answer .entry)) [] (now (table .entry)) .answer ⌝ }
     ensures { λ _. ⌜ now (table .exit) ≡ commanded caller (AddNodes s set) (now (answer .entry)) [] (now (table .entry)) .table ⌝ }
 {
-    commanded(table, caller, Command::AddNodes { s, set }, answer)
+    commanded(table, answer, caller, forms::ADD_NODES, s, 0, 0, set)
 }
 
 // The members of the set leave the s_group.
@@ -271,7 +288,7 @@ pub extern "C" fn sgroup_remove_nodes(
     ensures { λ _. ⌜ now (answer .exit) ≡ commanded caller (RemoveNodes s set) (now (answer .entry)) [] (now (table .entry)) .answer ⌝ }
     ensures { λ _. ⌜ now (table .exit) ≡ commanded caller (RemoveNodes s set) (now (answer .entry)) [] (now (table .entry)) .table ⌝ }
 {
-    commanded(table, caller, Command::RemoveNodes { s, set }, answer)
+    commanded(table, answer, caller, forms::REMOVE_NODES, s, 0, 0, set)
 }
 
 // The s_group goes, with its names.
@@ -286,7 +303,7 @@ pub extern "C" fn sgroup_delete_s_group(
     ensures { λ _. ⌜ now (answer .exit) ≡ commanded caller (DeleteSGroup s) (now (answer .entry)) [] (now (table .entry)) .answer ⌝ }
     ensures { λ _. ⌜ now (table .exit) ≡ commanded caller (DeleteSGroup s) (now (answer .entry)) [] (now (table .entry)) .table ⌝ }
 {
-    commanded(table, caller, Command::DeleteSGroup { s }, answer)
+    commanded(table, answer, caller, forms::DELETE_S_GROUP, s, 0, 0, 0)
 }
 
 // The nodes of the caller's groups, and how many they are.

@@ -1,16 +1,44 @@
--- `sgroup_c::commanded` meets its contract: with room for the answer it is the call's, and without it nothing is called.
+-- `sgroup_c::commanded` meets its contract: with room for the answer it is the call's of the number's command, and without it nothing is called.
 -- Assumes nothing.
 use borrow.Author.Needs.{needs}
+use mathlib.Core.Path.{_≡_, sym, ap, _∙_}
+use mathlib.Core.Bool.{Bool, true, false, false≢true}
 use mathlib.Core.List.{[]}
+use Rattle.commands.specs.declared.Command.{Command}
+use Rattle.commands.specs.declared.Command.the-variants.{OwnNodes}
+use Rattle.forms.specs.declared.Formed.{Formed}
+use Rattle.forms.specs.declared.Formed.the-variants.{Is, Nothing}
 use Rattle.semantics.specs.Call.{call}
 use Rattle.answer_words.specs.Told.{silent-table, tells-table}
 use Rattle.sgroup_c.proofs.commanded.Statement.{statement}
 use Rattle.sgroup_c.proofs.commanded.Tie as tie
 
+-- a number has one command
+
+abbrev formed : Formed → Bool
+formed (Is k) = true
+formed Nothing = false
+
+abbrev formed-command : Formed → Command
+formed-command (Is k) = k
+formed-command Nothing = OwnNodes
+
+one : {x y : Formed} {k l : Command} → x ≡ y → x ≡ Is k → y ≡ Is l → l ≡ k
+one e p q = ap formed-command (sym q ∙ sym e ∙ p)
+
+none : {x y : Formed} {l : Command} → x ≡ y → x ≡ Nothing → y ≡ Is l → ⊥
+none e p q = false≢true (ap formed (sym p ∙ e ∙ q))
+
 returns : tie.Need-returns
-returns c =
+returns c = λ command known.
     let a = c .before .before .before .args in
-    silent-table (call 0 (a .caller) (a .command) (a .table .now)) (a .answer .now) [] (a .table .now) (c .if1 .taken)
+    silent-table (call 0 (a .caller) command (a .table .now)) (a .answer .now) [] (a .table .now) (c .if1 .taken)
+
+command-of-requires : tie.Need-command-of-requires
+command-of-requires c κs = search needs
+
+enum-known-command : tie.Need-enum-known-command
+enum-known-command c = search needs
 
 slice-aggregate-call : tie.Need-slice-aggregate-call
 slice-aggregate-call c = search needs
@@ -19,7 +47,10 @@ call-requires : tie.Need-call-requires
 call-requires c κs = search needs
 
 put-requires : tie.Need-put-requires
-put-requires c κs = c .before .before .before .before .before .before .before .if1 .left
+put-requires c κs = c .before .before .before .before .before .before .before .before .before .before .before .if1 .left
+
+enum-told : tie.Need-enum-told
+enum-told c = search needs
 
 same-length : tie.Need-same-length
 same-length c = search needs
@@ -28,20 +59,29 @@ same-length-2 : tie.Need-same-length-2
 same-length-2 c = search needs
 
 returns-2 : tie.Need-returns-2
-returns-2 c =
+returns-2 c = λ command known.
     let b = c .before .before .before .before .before .before in
-    let e = b .before .before .before .before in
+    let k = b .before .before .before .before .before in
+    let e = k .before .before .before in
     let a = e .before .before .before .args in
-    tells-table (call 0 (a .caller) (a .command) (a .table .now)) (a .answer .now) [] (a .table .now) (e .if1 .left) (b .call .ensures .0, b .call .ensures .1 .0) (c .before .before .put .ensures)
+    rw (one (k .before .before .command-of .ensures) (k .command .given .1) known)
+    (tells-table (call 0 (a .caller) (k .command .given .0 .0) (a .table .now)) (a .answer .now) [] (a .table .now) (e .if1 .left) (b .call .ensures .0, b .call .ensures .1 .0) (c .before .before .put .ensures))
+
+returns-3 : tie.Need-returns-3
+returns-3 c = λ command known. absurd (none (c .before .before .command-of .ensures) (c .enum-told .given .1) known)
 
 pub commanded-spec : {M : Type 1} → statement M
 commanded-spec =
     tie.close
     (tie.spec
     returns
+    command-of-requires
+    enum-known-command
     slice-aggregate-call
     call-requires
     put-requires
+    enum-told
     same-length
     same-length-2
-    returns-2)
+    returns-2
+    returns-3)

@@ -23,7 +23,6 @@ ghost use Prim.Native.Nat.{ℕ};
 ghost use Rattle.grammar.specs.File.{outcome, taken};
 ghost use Rattle.walk.specs.Groups.{groups, pass-groups};
 ghost use Rattle.walk.specs.declared.Step.the-variants as Step;
-ghost use Rattle.launch_file.specs.Reading.{from-groups};
 ghost use Rattle.creating.specs.Creating.{narrow, created};
 ghost use Rattle.semantics.specs.Call.{opening};
 
@@ -145,37 +144,6 @@ fn at_once(
     }
 }
 
-// The launch of a file whose groups begin at g, on a run and a roster that are in order. Of the functions that it calls those with arrays are called twice,
-// so that the compiler keeps the arrays out of the frame on which reading stands.
-fn behind(
-    t: &mut [u64],
-    n: u32,
-    hidden: u64,
-    start: u32,
-    book: &[u8],
-    file: &[u8],
-    g: usize,
-) -> Launched
-    requires { ⌜ In-order n hidden start (now t) ⌝ }
-    requires { ⌜ outcome (now file) ≡ from-groups (now file) g ⌝ }
-    ensures { λ r. ⌜ r .answer ≡ launch n hidden start (now (book .entry)) (now (file .entry)) (now (t .entry)) .answer ⌝ }
-    ensures { λ r. ⌜ r .place ≡ launch n hidden start (now (book .entry)) (now (file .entry)) (now (t .entry)) .place ⌝ }
-    ensures { λ _. ⌜ now (t .exit) ≡ launch n hidden start (now (book .entry)) (now (file .entry)) (now (t .entry)) .table ⌝ }
-{
-    if at_once(t, n, hidden, book, file, g, false) {
-        return through();
-    }
-    match reader::rest_of(file, g) {
-        Reading::Refused(p) => judged(t, n, hidden, start, book, file, false, p),
-        Reading::Whole(_) => {
-            if at_once(t, n, hidden, book, file, g, true) {
-                return through();
-            }
-            judged(t, n, hidden, start, book, file, true, g)
-        }
-    }
-}
-
 // Opens the table for n nodes, some of them hidden, and makes the s_groups of the launch file: their atoms and those of their nodes have their numbers by the
 // book; start is the node that is started.
 pub fn launch(t: &mut [u64], n: u32, hidden: u64, start: u32, book: &[u8], file: &[u8]) -> Launched
@@ -198,8 +166,22 @@ pub fn launch(t: &mut [u64], n: u32, hidden: u64, start: u32, book: &[u8], file:
     if n <= start {
         return refused_at(Reason::NodeUnknown, 0);
     }
+    // The functions that have arrays are called at more than one place, so that the compiler keeps the arrays out of the frame on which reading stands.
     match reader::front_of(file) {
         Step::Stop(p) => judged(t, n, hidden, start, book, file, false, p),
-        Step::Past(g) => behind(t, n, hidden, start, book, file, g),
+        Step::Past(g) => {
+            if at_once(t, n, hidden, book, file, g, false) {
+                return through();
+            }
+            match reader::rest_of(file, g) {
+                Reading::Refused(p) => judged(t, n, hidden, start, book, file, false, p),
+                Reading::Whole(_) => {
+                    if at_once(t, n, hidden, book, file, g, true) {
+                        return through();
+                    }
+                    judged(t, n, hidden, start, book, file, true, g)
+                }
+            }
+        }
     }
 }

@@ -1,10 +1,11 @@
--- `launch::launch` meets its contract: the run, the roster and the nodes are tested, the file is read, and the rest is judged.
+-- `launch::launch` meets its contract: the run, the roster and the nodes are tested; then the launch goes through in one walk, or the file is read to its end and
+-- judged.
 -- Assumes nothing.
 use borrow.Author.Needs.{needs}
 use mathlib.Core.Path.{sym, ap, _∙_}
-use mathlib.Core.Bool.{false≢true}
-use Rattle.launch_file.specs.Reading.{fronted}
-use Rattle.launch.specs.Launches.{length-wrong, nobody, too-many, hidden-beyond, start-beyond, refuses-so}
+use mathlib.Core.Bool.{true≢false, false≢true}
+use Rattle.launch_file.specs.Reading.{fronted, read-as}
+use Rattle.launch.specs.Launches.{length-wrong, nobody, too-many, hidden-beyond, start-beyond, refuses-so, tells-through, read-whole, told-of}
 use Rattle.launch.proofs.launch.Statement.{statement}
 use Rattle.launch.proofs.launch.Tie as tie
 
@@ -60,23 +61,76 @@ judged-requires c κs = (
 enum-known-g : tie.Need-enum-known-g
 enum-known-g c = search needs
 
-behind-requires : tie.Need-behind-requires
-behind-requires c κs = (
-  record { opens = record { long = c .before .before .before .before .before .before .before .before .before .before .if1 .left; some = c .before .before .before .before .before .before .before .before .before .if2 .left; few = c .before .before .before .before .before .before .before .before .if3 .left; on = sym (c .before .before .before .before .before .before .before .beyond .ensures) ∙ c .before .before .before .before .before .before .if4 .left }; known = c .before .before .before .before .before .if5 .left },
-  c .before .before .before .before .front-of .ensures ∙ ap (fronted _) (c .before .before .g .given .1),
+at-once-requires : tie.Need-at-once-requires
+at-once-requires c κs = (
+  record { long = c .before .before .before .before .before .before .before .before .before .before .if1 .left; some = c .before .before .before .before .before .before .before .before .before .if2 .left; few = c .before .before .before .before .before .before .before .before .if3 .left; on = sym (c .before .before .before .before .before .before .before .beyond .ensures) ∙ c .before .before .before .before .before .before .if4 .left },
+  record { goes-on = c .before .before .before .before .front-of .ensures ∙ ap (fronted _) (c .before .before .g .given .1); is-file = λ e. absurd (false≢true e) },
 )
+
+through-requires : tie.Need-through-requires
+through-requires c κs = search needs
 
 same-length : tie.Need-same-length
 same-length c = search needs
 
 returns-6 : tie.Need-returns-6
-returns-6 c = c .before .before .judged .ensures
+returns-6 c = tells-through (c .before .before .before .before .at-once .ensures .went-through (c .before .if6 .taken) _ (c .before .before .before .before .before .before .before .before .before .before .if5 .left)) (c .through .ensures)
+
+rest-of-requires : tie.Need-rest-of-requires
+rest-of-requires c κs = search needs
+
+enum-known-p-2 : tie.Need-enum-known-p-2
+enum-known-p-2 c = search needs
+
+judged-requires-2 : tie.Need-judged-requires-2
+judged-requires-2 c κs = (
+  rw (c .before .before .before .before .before .before .before .before .at-once .ensures .untouched (c .before .before .before .before .before .if6 .left)) (record { opens = record { long = c .before .before .before .before .before .before .before .before .before .before .before .before .before .before .before .before .before .before .before .if1 .left; some = c .before .before .before .before .before .before .before .before .before .before .before .before .before .before .before .before .before .before .if2 .left; few = c .before .before .before .before .before .before .before .before .before .before .before .before .before .before .before .before .before .if3 .left; on = sym (c .before .before .before .before .before .before .before .before .before .before .before .before .before .before .before .before .beyond .ensures) ∙ c .before .before .before .before .before .before .before .before .before .before .before .before .before .before .before .if4 .left }; known = c .before .before .before .before .before .before .before .before .before .before .before .before .before .before .if5 .left }),
+  record { is-file = λ e. absurd (false≢true e); is-none = λ e. (c .before .before .before .before .before .before .before .before .before .before .before .before .before .front-of .ensures ∙ ap (fronted _) (c .before .before .before .before .before .before .before .before .before .before .before .g .given .1)) ∙ c .before .before .before .before .rest-of .ensures .0 ∙ ap (read-as _) (c .before .before .p2 .given .1) },
+)
+
+enum-told : tie.Need-enum-told
+enum-told c = search needs
+
+at-once-requires-2 : tie.Need-at-once-requires-2
+at-once-requires-2 c κs =
+    let f = c .before .before .before .before .before .before .before .before .before .before .before .before .front-of .ensures ∙ ap (fronted _) (c .before .before .before .before .before .before .before .before .before .before .g .given .1) in
+    (rw (c .before .before .before .before .before .before .before .at-once .ensures .untouched (c .before .before .before .before .if6 .left)) (record { long = c .before .before .before .before .before .before .before .before .before .before .before .before .before .before .before .before .before .before .if1 .left; some = c .before .before .before .before .before .before .before .before .before .before .before .before .before .before .before .before .before .if2 .left; few = c .before .before .before .before .before .before .before .before .before .before .before .before .before .before .before .before .if3 .left; on = sym (c .before .before .before .before .before .before .before .before .before .before .before .before .before .before .before .beyond .ensures) ∙ c .before .before .before .before .before .before .before .before .before .before .before .before .before .before .if4 .left }), record { goes-on = f; is-file = λ e. read-whole _ _ _ _ (f) (c .before .before .before .rest-of .ensures .0) (c .before .before .before .rest-of .ensures .1) (c .before .enum-told .given .1) })
+
+through-requires-2 : tie.Need-through-requires-2
+through-requires-2 c κs = search needs
 
 same-length-2 : tie.Need-same-length-2
 same-length-2 c = search needs
 
 returns-7 : tie.Need-returns-7
-returns-7 c = c .before .before .behind .ensures
+returns-7 c =
+    told-of _ _ _ _ _ (c .before .before .before .before .before .before .before .before .before .before .before .before .at-once .ensures .untouched (c .before .before .before .before .before .before .before .before .before .if6 .left))
+    (tells-through (c .before .before .before .before .at-once2 .ensures .went-through (c .before .if7 .taken) _ (c .before .before .before .before .before .before .before .before .before .before .before .before .before .before .before .before .before .before .if5 .left)) (c .through2 .ensures))
+
+judged-requires-3 : tie.Need-judged-requires-3
+judged-requires-3 c κs = (
+  rw (c .before .before .before .before .at-once2 .ensures .untouched (c .before .if7 .left), c .before .before .before .before .before .before .before .before .before .before .before .before .at-once .ensures .untouched (c .before .before .before .before .before .before .before .before .before .if6 .left)) (record { opens = record { long = c .before .before .before .before .before .before .before .before .before .before .before .before .before .before .before .before .before .before .before .before .before .before .before .if1 .left; some = c .before .before .before .before .before .before .before .before .before .before .before .before .before .before .before .before .before .before .before .before .before .before .if2 .left; few = c .before .before .before .before .before .before .before .before .before .before .before .before .before .before .before .before .before .before .before .before .before .if3 .left; on = sym (c .before .before .before .before .before .before .before .before .before .before .before .before .before .before .before .before .before .before .before .before .beyond .ensures) ∙ c .before .before .before .before .before .before .before .before .before .before .before .before .before .before .before .before .before .before .before .if4 .left }; known = c .before .before .before .before .before .before .before .before .before .before .before .before .before .before .before .before .before .before .if5 .left }),
+  record { is-file = λ e. read-whole _ _ _ _ (c .before .before .before .before .before .before .before .before .before .before .before .before .before .before .before .before .before .front-of .ensures ∙ ap (fronted _) (c .before .before .before .before .before .before .before .before .before .before .before .before .before .before .before .g .given .1)) (c .before .before .before .before .before .before .before .before .rest-of .ensures .0) (c .before .before .before .before .before .before .before .before .rest-of .ensures .1) (c .before .before .before .before .before .before .enum-told .given .1); is-none = λ e. absurd (true≢false e) },
+)
+
+same-length-3 : tie.Need-same-length-3
+same-length-3 c = search needs
+
+returns-8 : tie.Need-returns-8
+returns-8 c = c .before .before .judged .ensures
+
+same-length-4 : tie.Need-same-length-4
+same-length-4 c = search needs
+
+returns-9 : tie.Need-returns-9
+returns-9 c = told-of _ _ _ _ _ (c .before .before .before .before .before .before .before .before .before .before .before .at-once .ensures .untouched (c .before .before .before .before .before .before .before .before .if6 .left)) (c .before .before .judged2 .ensures)
+
+same-length-5 : tie.Need-same-length-5
+same-length-5 c = search needs
+
+returns-10 : tie.Need-returns-10
+returns-10 c =
+    told-of _ _ _ _ _ (c .before .before .before .before .before .before .before .at-once2 .ensures .untouched (c .before .before .before .before .if7 .left) ∙ c .before .before .before .before .before .before .before .before .before .before .before .before .before .before .before .at-once .ensures .untouched (c .before .before .before .before .before .before .before .before .before .before .before .before .if6 .left)) (c .before .before .judged3 .ensures)
 
 pub launch-spec : {M : Type 1} → statement M
 launch-spec =
@@ -97,8 +151,22 @@ launch-spec =
     enum-known-p
     judged-requires
     enum-known-g
-    behind-requires
+    at-once-requires
+    through-requires
     same-length
     returns-6
+    rest-of-requires
+    enum-known-p-2
+    judged-requires-2
+    enum-told
+    at-once-requires-2
+    through-requires-2
     same-length-2
-    returns-7)
+    returns-7
+    judged-requires-3
+    same-length-3
+    returns-8
+    same-length-4
+    returns-9
+    same-length-5
+    returns-10)

@@ -18,10 +18,10 @@ use book_index::MARKS;
 pub const INDEX_SIZE: usize = 512;
 
 // The bytes of the longest atom.
-const LONGEST_ATOM: usize = 64;
+pub const LONGEST_ATOM: usize = 64;
 
 // So many group atoms a book can have.
-const GROUP_ATOMS: usize = 65535;
+pub const GROUP_ATOMS: usize = 65535;
 
 // An index knows the places of so many lines, and behind these the number of group atoms.
 const INDEXED_LINES: usize = 126;

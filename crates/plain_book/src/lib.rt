@@ -1,14 +1,10 @@
 // A book tested and searched by its lines alone, for the rare ways of a launch: no index is made, and no array.
+use book::GROUP_ATOMS;
+use book::LONGEST_ATOM;
 ghost use mathlib.Core.Path.{_≡_};
 ghost use mathlib.Core.Bool.{true};
 ghost use Rattle.book.specs.Book.{fit, node-atoms, place-of};
 ghost use Rattle.plain_book.specs.Numbers.{number-in};
-
-// The bytes of the longest atom.
-const LONGEST_ATOM: usize = 64;
-
-// So many group atoms a book can have.
-const GROUP_ATOMS: usize = 65535;
 
 // Whether a text is a book for n nodes.
 pub fn fits(book: &[u8], n: u32) -> bool

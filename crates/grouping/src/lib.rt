@@ -16,6 +16,7 @@ use inputs::set_reason;
 use layout::COUNT_AT;
 use layout::MEMBERS_AT;
 use layout::SIZE_AT;
+use names::drop_hosted;
 use place::Access;
 use place::Place;
 use place::place_for;
@@ -79,7 +80,7 @@ pub fn add_nodes(t: &mut [u64], caller: u32, s: u32, set: u64) -> Answer
     }
 }
 
-// The nodes of the set that are members leave the s_group; where none is left, it is deleted.
+// The nodes of the set that are members leave the s_group, with the names of their pids; where none is left, it is deleted.
 pub fn remove_nodes(t: &mut [u64], caller: u32, s: u32, set: u64) -> Answer
     requires { ⌜ length (now t) ≡ table-words names-per-group ⌝ }
     requires { ⌜ sound names-per-group (now t) ≡ true ⌝ }
@@ -101,8 +102,10 @@ pub fn remove_nodes(t: &mut [u64], caller: u32, s: u32, set: u64) -> Answer
                 become_free(t, members);
                 return done(Value::True);
             }
+            let gone = nodes::inter(members, set);
+            drop_hosted(t, at, gone);
             set_members(t, at, left);
-            become_free(t, nodes::inter(members, set));
+            become_free(t, gone);
             done(Value::True)
         }
     }

@@ -1,6 +1,7 @@
 // The names of the s_group at a place of the table: its own words are lent to the namespace functions, and its contents word counts them.
 use answers::Reason;
 use entries::Change;
+use entries::Counted;
 use entries::Found;
 use entries::Held;
 use layout::BODIES_AT;
@@ -14,7 +15,7 @@ ghost use mathlib.Core.Bool.{true};
 ghost use mathlib.Core.Option.{none};
 ghost use Prim.Native.Nat.{_<_};
 ghost use lib.ListN.{length};
-ghost use Rattle.entries.specs.Entries.{insert, remove, renew, lookup, rank, holds-pid};
+ghost use Rattle.entries.specs.Entries.{insert, remove, renew, lookup, rank, holds-pid, drop-hosted};
 ghost use Rattle.entries.specs.Raw.{answer-at};
 ghost use Rattle.semantics.specs.Sizes.{group-limit, names-per-group, table-words};
 ghost use Rattle.semantics.specs.State.{State};
@@ -110,6 +111,24 @@ pub fn replace_name(t: &mut [u64], at: usize, n: u32, p: u32) -> bool
     match namespace::replace(&mut t[start..end], count, n, p) {
         Change::Done => true,
         _ => false,
+    }
+}
+
+// Without the names whose pid lives on a node of the set.
+pub fn drop_hosted(t: &mut [u64], at: usize, set: u64)
+    requires { ⌜ length (now t) ≡ table-words names-per-group ⌝ }
+    requires { ⌜ at < group-limit ⌝ }
+    ensures { λ _. ⌜ ((st : State) → Laid names-per-group st (now (t .entry)) → Standing at st → Laid names-per-group (with-names at (drop-hosted set (names-at at st)) st) (now (t .exit))) ⌝ }
+{
+    let contents = t[CONTENTS_AT + at];
+    let count = (contents / GROUP_NAMES) as usize;
+    let start = BODIES_AT + NAMES_PER_GROUP * at;
+    let end = start + NAMES_PER_GROUP;
+    match namespace::drop_hosted(&mut t[start..end], count, set) {
+        Counted::Of(kept) => {
+            t[CONTENTS_AT + at] = contents % GROUP_NAMES + GROUP_NAMES * kept as u64;
+        }
+        Counted::Unfit => {}
     }
 }
 

@@ -3,21 +3,21 @@
 use mathlib.Core.Path.{_≡_, refl, sym, ap, _∙_}
 use mathlib.Core.Logic.{⊎-elim}
 use mathlib.Core.List.{List, [], _∷_, _++_, map}
-use mathlib.Core.Bool.{cond, _&&_}
+use mathlib.Core.Bool.{true, false, cond, _&&_}
 use mathlib.Core.Option.{Option, none, some}
 use Prim.Native.Nat.{ℕ, zero, suc, _+_, _*_, _/_, _%_, _≤_, _<_}
 use native.Mathlib.Nat.{not-suc-le-zero, le-of-suc-le-suc, suc-sub-suc, sub-zero}
 use native.Mathlib.Omega.{arith}
 use lib.ListN.{length, getD, set, take, drop}
 use lib.Dec.{ltb, leb, eqb}
-use borrow.Author.Tests.{lt-ltb, le-ltb, le-leb, eq-eqb, ne-eqb}
-use Rattle.nodes.specs.Bools.{by-lt, by-eq}
-use Rattle.entries.specs.Entries.{Entry, half-word, insert, remove, renew, lookup, rank, holds-pid, drop-hosted, word-of, words}
+use borrow.Author.Tests.{lt-ltb, le-ltb, le-leb, leb-true, eq-eqb, ne-eqb}
+use Rattle.nodes.specs.Bools.{by-test, by-lt, by-eq}
+use Rattle.entries.specs.Entries.{Entry, half-word, insert, remove, renew, lookup, rank, holds-pid, drop-hosted, word-of, words, entries}
 use Rattle.entries.specs.NamespaceSound.{Ascending, Sound}
 use Rattle.entries.specs.Raw.{place, found-at, found, answer-at, pid-found, yes-no, pid-answer, opened, add-answer, added, closed, closed-at, dropped, stored-at, replaced, listed-name, list-answer, listed, hosted-answer, hosted-dropped}
 use Rattle.entries.specs.EntryLaws.{held-or-not, lookup-low, remove-absent, renew-absent}
 use Rattle.entries.specs.NamespaceKept.{length-drop-hosted}
-use Rattle.entries.specs.Storage.{length-words, entries-words}
+use Rattle.entries.specs.Storage.{length-words, length-entries, entries-words}
 use Rattle.entries.specs.Search.{narrowed-finds}
 use Rattle.entries.specs.declared.Found.the-variants as find
 use Rattle.entries.specs.declared.Change.the-variants as change
@@ -280,3 +280,17 @@ unfolding hosted-dropped
 hosted-dropped-words cap size hosts es s =
     rw (length-words cap es, le-leb (length es) cap (s .room), entries-words cap size es s)
     (shorter cap (drop-hosted hosts es) es (length-drop-hosted hosts es) (s .room))
+
+-- no more are left than there were words
+pub hosted-few : (count hosts kept : ℕ) (ws : List ℕ) → counted.Of kept ≡ hosted-answer count hosts ws → kept ≤ length ws
+unfolding hosted-answer
+hosted-few count hosts kept ws e =
+    ⊎-elim
+    (λ (q : leb count (length ws) ≡ true).
+    let same : counted.Of kept ≡ counted.Of (length (drop-hosted hosts (entries count ws))) = rw q at e in
+    let many : kept ≡ length (drop-hosted hosts (entries count ws)) = cc in
+    omega (arith, length-drop-hosted hosts (entries count ws), length-entries count ws (leb-true count (length ws) q), leb-true count (length ws) q))
+    (λ (q : leb count (length ws) ≡ false).
+    let same : counted.Of kept ≡ counted.Unfit = rw q at e in
+    let z : _≡_ {A = ℕ} 0 1 = cc in absurd (omega arith))
+    (by-test (leb count (length ws)))

@@ -8,6 +8,7 @@ use lib.ListN.{length, getD}
 use borrow.Author.Tests.{eq-eqb, ne-eqb, eqb-true}
 use Rattle.nodes.specs.Sets.{has, empty, union, inter, diff}
 use Rattle.nodes.specs.SetLaws.{has-diff, subset-diff}
+use Rattle.entries.specs.Entries.{Entry, drop-hosted}
 use Rattle.semantics.specs.Sizes.{group-limit, names-per-group, members-at}
 use Rattle.semantics.specs.State.{Group, State, with-groups, with-links, with-free, find, put, drop-group, all-members}
 use Rattle.commands.specs.declared.Command.{Command}
@@ -27,6 +28,8 @@ use Rattle.inputs.specs.Judge.{is-done, group-reason, set-reason, creation-reas
 use Rattle.inputs.specs.Passed.{done-is, creation-done}
 use Rattle.place.specs.Seats.{Seat, Room, Open, Shut, seat-group}
 use Rattle.place.specs.Sound.{here, regular, base, groups-few, seat-below, members-here}
+use Rattle.names.specs.NamesAt.{names-at, renamed}
+use Rattle.names.specs.NamesHere.{names-of}
 use Rattle.returns.specs.Judged.{Goes, Judging, refused, passed, allowed, step-new, step-add, step-remove, step-delete}
 use Rattle.returns.specs.Shown.{Says, says, says-kept}
 use Rattle.connecting.specs.Loosed.{Apart, apart-fewer}
@@ -45,9 +48,13 @@ module _ {room i s : ℕ} {c : Command} {st : State} {r : Reason} {k : Group →
   pub let-in : {at : ℕ} (o : Open i s at (st .groups)) → Goes room i c st (k (o .seat .group))
   let-in o = record { is = passed (f .judging) e h .is ∙ rw (o .seat .finds, o .member) }
 
--- nodes of the set leave the s_group
+-- nodes of the set leave the s_group, with the names of their pids
 abbrev pub removed : ℕ → ℕ → State → Group → Result
-removed s set st g = reply True Done (become-free (inter (g .members) set) (left-in s (diff (g .members) set) (g .names) (st .groups)) st)
+removed s set st g = reply True Done (become-free (inter (g .members) set) (left-in s set g (st .groups)) st)
+
+-- the s_group g, at a place of the state, with the members m left and without the names of the nodes that are gone
+abbrev pub less : ℕ → ℕ → ℕ → State → Group → Group
+less m gone at st g = manned m (renamed (drop-hosted gone (names-at at st)) g)
 
 -- the s_group goes
 abbrev pub gone : ℕ → State → Group → Result
@@ -117,7 +124,7 @@ module _ (t : List ℕ) (ok : sound names-per-group t ≡ true) (i s : ℕ) wher
         left-is : left ≡ diff (o .seat .group .members) set
         left-is = el ∙ ap (λ (x : ℕ). diff x set) (members-seated t ok (o .seat))
 
-        goes : {gs : List Group} → left-in s (diff (o .seat .group .members) set) (o .seat .group .names) (here t .groups) ≡ gs
+        goes : {gs : List Group} → left-in s set (o .seat .group) (here t .groups) ≡ gs
             → Laid names-per-group (become-free (inter (o .seat .group .members) set) gs (here t)) u → Says 0 i (RemoveNodes s set) t (answer-of True Done) u
         goes e′ l =
             says t ok (let-in (step-removed 0 i (here t) s set) e h o) u
@@ -125,14 +132,17 @@ module _ (t : List ℕ) (ok : sound names-per-group t ≡ true) (i s : ℕ) wher
 
         -- some are left
         pub remove-left : (left ≡ 0 → ⊥) → (gone : ℕ) → gone ≡ inter (getD t (members-at + at) 0) set
-            → Laid names-per-group (become-free gone (o .seat .before ++ manned left (o .seat .group) ∷ o .seat .after) (here t)) u
+            → Laid names-per-group (become-free gone (o .seat .before ++ less left gone at (here t) (o .seat .group) ∷ o .seat .after) (here t)) u
             → Says 0 i (RemoveNodes s set) t (answer-of True Done) u
         remove-left n gone eg l =
-            goes (ap (λ (x : Bool). cond x (drop-group s (here t .groups)) (put s (diff (o .seat .group .members) set) (o .seat .group .names) (here t .groups))) (ne-eqb _ 0 (λ z. n (left-is ∙ z)))
-            ∙ o .seat .putting _ (o .seat .group .names))
+            let g = o .seat .group in
+            goes (ap (λ (x : Bool). cond x (drop-group s (here t .groups)) (put s (diff (g .members) set) (drop-hosted (inter (g .members) set) (g .names)) (here t .groups))) (ne-eqb _ 0 (λ z. n (left-is ∙ z)))
+            ∙ o .seat .putting _ _)
             (subst (λ (x : State). Laid names-per-group x u)
-            (ap₂ (λ (x y : ℕ). become-free x (o .seat .before ++ manned y (o .seat .group) ∷ o .seat .after) (here t))
-            (eg ∙ ap (λ (x : ℕ). inter x set) (members-seated t ok (o .seat))) left-is) l)
+            (ap₂ (λ (x y : ℕ). become-free x (o .seat .before ++ less y x at (here t) g ∷ o .seat .after) (here t))
+            (eg ∙ ap (λ (x : ℕ). inter x set) (members-seated t ok (o .seat))) left-is
+            ∙ ap (λ (ns : List Entry). become-free (inter (g .members) set) (o .seat .before ++ manned (diff (g .members) set) (renamed (drop-hosted (inter (g .members) set) ns) g) ∷ o .seat .after) (here t))
+            (names-of (here t) (o .seat))) l)
 
         -- none is left: all are gone
         pub remove-all : left ≡ 0 → Laid names-per-group (become-free (getD t (members-at + at) 0) (o .seat .before ++ o .seat .after) (here t)) u
@@ -140,7 +150,7 @@ module _ (t : List ℕ) (ok : sound names-per-group t ≡ true) (i s : ℕ) wher
         remove-all z l =
             let none : empty (diff (o .seat .group .members) set) ≡ true = eq-eqb _ 0 (sym left-is ∙ z) in
             let every : inter (o .seat .group .members) set ≡ o .seat .group .members = eqb-true _ _ (subset-diff (o .seat .group .members) set ∙ none) in
-            goes (ap (λ (x : Bool). cond x (drop-group s (here t .groups)) (put s (diff (o .seat .group .members) set) (o .seat .group .names) (here t .groups))) none ∙ o .seat .dropping)
+            goes (ap (λ (x : Bool). cond x (drop-group s (here t .groups)) (put s (diff (o .seat .group .members) set) (drop-hosted (inter (o .seat .group .members) set) (o .seat .group .names)) (here t .groups))) none ∙ o .seat .dropping)
             (subst (λ (x : ℕ). Laid names-per-group (become-free x (o .seat .before ++ o .seat .after) (here t)) u) (members-seated t ok (o .seat) ∙ sym every) l)
 
   -- ---- delete_s_group
@@ -163,13 +173,14 @@ module _ (t : List ℕ) (ok : sound names-per-group t ≡ true) {s at : ℕ} (r 
       all-found s (here t .groups) (r .group) (place (regular t ok) s (r .group) (r .finds)) i
       ∙ ap (λ (x : Bool). x || has (r .group .members) i) (ap (λ (gs : List Group). has (all-members gs) i) (r .dropping) ∙ h))
 
-  -- with fewer members
-  pub apart-left : (set m : ℕ) → m ≡ diff (getD t (members-at + at) 0) set → Apart (with-groups (r .before ++ manned m (r .group) ∷ r .after) (here t))
-  apart-left set m e =
-      apart-fewer (regular t ok) (r .before ++ manned m (r .group) ∷ r .after) (λ i h.
+  -- with fewer members, and other names
+  pub apart-left : (set m : ℕ) (ns : List Entry) → m ≡ diff (getD t (members-at + at) 0) set
+      → Apart (with-groups (r .before ++ manned m (renamed ns (r .group)) ∷ r .after) (here t))
+  apart-left set m ns e =
+      apart-fewer (regular t ok) (r .before ++ manned m (renamed ns (r .group)) ∷ r .after) (λ i h.
       all-found s (here t .groups) (r .group) p i
       ∙ or-cases (has (all-members (drop-group s (here t .groups))) i) (has m i)
-      (sym (all-put s (here t .groups) (r .group) p m (r .group .names) i) ∙ ap (λ (gs : List Group). has (all-members gs) i) (r .putting m (r .group .names)) ∙ h)
+      (sym (all-put s (here t .groups) (r .group) p m ns i) ∙ ap (λ (gs : List Group). has (all-members gs) i) (r .putting m ns) ∙ h)
       (λ x. ap (λ (y : Bool). y || has (r .group .members) i) x)
       (λ x. ap (λ (y : Bool). has (all-members (drop-group s (here t .groups))) i || y) (still i x) ∙ or-true (has (all-members (drop-group s (here t .groups))) i)))
     where

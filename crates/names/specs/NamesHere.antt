@@ -1,25 +1,26 @@
 -- What the namespace functions find in the words of an s_group of a table, and the table after they changed them. Assumes nothing.
-use mathlib.Core.Path.{_≡_, refl, sym, ap, _∙_, subst}
+use mathlib.Core.Path.{_≡_, refl, sym, ap, ap₂, _∙_, subst}
 use mathlib.Core.Bool.{true, false, false≢true}
 use mathlib.Core.Option.{Option, none, some}
 use mathlib.Core.List.{List, _∷_, _++_}
-use Prim.Native.Nat.{ℕ, zero, suc, _+_, _-_, _*_, _<_}
+use Prim.Native.Nat.{ℕ, zero, suc, _+_, _-_, _*_, _%_, _<_}
 use native.Mathlib.Omega.{arith}
 use lib.ListN.{length, getD, take, drop, set, length-append}
 use lib.Seq.{set-at, set-getD}
 use borrow.Author.Tests.{le-leb, le-ltb, eq-eqb, ne-eqb}
-use Rattle.entries.specs.Entries.{Entry, insert, remove, renew, lookup, rank, holds-pid, words}
-use Rattle.entries.specs.Raw.{place, found, found-at, answer-at, pid-answer, yes-no, added, dropped, replaced, change-of}
+use Rattle.entries.specs.Entries.{Entry, insert, remove, renew, lookup, rank, holds-pid, drop-hosted, words}
+use Rattle.entries.specs.Raw.{place, found, found-at, answer-at, pid-answer, yes-no, added, dropped, replaced, change-of, hosted-answer, hosted-dropped}
 use Rattle.entries.specs.EntryLaws.{length-insert, length-remove, length-renew, remove-absent}
-use Rattle.entries.specs.NamespaceMeaning.{found-words, pid-answer-words, added-words, dropped-words, replaced-words}
+use Rattle.entries.specs.NamespaceMeaning.{found-words, pid-answer-words, added-words, dropped-words, replaced-words, hosted-answer-words, hosted-dropped-words}
 use Rattle.entries.specs.declared.Change.{Change}
 use Rattle.entries.specs.declared.Change.the-variants as change
+use Rattle.entries.specs.declared.Counted.the-variants as counts
 use Rattle.semantics.specs.Sizes.{group-names, names-per-group, contents-at, bodies-at}
 use Rattle.semantics.specs.State.{Group, State, with-groups}
 use Rattle.semantics.specs.Ranges.{held}
 use Rattle.semantics.specs.Steps.{hold, apply, looked, nothing-found, ask}
 use Rattle.semantics.specs.Regular.{Regular-group, Regular}
-use Rattle.semantics.specs.Places.{no-group, every-iff}
+use Rattle.semantics.specs.Places.{no-group, group-at, contents-name, every-iff}
 use Rattle.semantics.specs.NamesKept.{not-held}
 use Rattle.semantics.specs.WordsOfState.{Laid}
 use Rattle.answers.specs.declared.Reason.{Reason}
@@ -57,6 +58,11 @@ module _ {st : State} {t : List ℕ} (l : Laid names-per-group st t) (k : ℕ) (
     pid-here p =
         rw (count-is, own-words l k (w .below) b e eb ee) (pid-answer-words names-per-group (st .size) p (names-at k st) (w .regular .names-sound))
 
+    -- how many names are left without those of some hosts
+    pub left-here : (hosts : ℕ) → hosted-answer (counted k t) hosts (take (e - b) (drop b t)) ≡ counts.Of (length (drop-hosted hosts (names-at k st)))
+    left-here hosts =
+        rw (count-is, own-words l k (w .below) b e eb ee) (hosted-answer-words names-per-group (st .size) hosts (names-at k st) (w .regular .names-sound))
+
     module _ (r : List ℕ) (long : length r ≡ length (take (e - b) (drop b t))) where
       -- the table with r in the place of the names
       abbrev lent : List ℕ
@@ -91,6 +97,19 @@ module _ {st : State} {t : List ℕ} (l : Laid names-per-group st t) (k : ℕ) (
           renamed-as-many l k (w .below) b e eb ee (renew n p (names-at k st)) (replaced (counted k t) n p)
           (rw count-is (replaced-words names-per-group (st .size) n p (names-at k st) (w .regular .names-sound))) r long left (length-renew n p (names-at k st))
 
+      -- without the names of some hosts, the number of those that are left being stored
+      pub hosted-here : (hosts kept : ℕ) → counts.Of kept ≡ hosted-answer (counted k t) hosts (take (e - b) (drop b t))
+          → r ≡ hosted-dropped (counted k t) hosts (take (e - b) (drop b t))
+          → Laid names-per-group (with-names k (drop-hosted hosts (names-at k st)) st) (set lent (contents-at + k) (getD t (contents-at + k) 0 % group-names + group-names * kept))
+      hosted-here hosts kept told left =
+          renamed-counted l k (w .below) b e eb ee (drop-hosted hosts (names-at k st)) (hosted-dropped (counted k t) hosts)
+          (rw count-is (hosted-dropped-words names-per-group (st .size) hosts (names-at k st) (w .regular .names-sound))) r long left _
+          (ap₂ (λ (x y : ℕ). x + group-names * y)
+          (ap (λ (x : ℕ). x % group-names) (contents-here l k (w .below)) ∙ contents-name (group-at (st .groups) k) (w .regular .small)) many)
+        where
+          many : kept ≡ length (drop-hosted hosts (names-at k st))
+          many = let same : counts.Of kept ≡ counts.Of (length (drop-hosted hosts (names-at k st))) = told ∙ left-here hosts in cc
+
 -- where a change was made there was a name
 pub some-name : (count n : ℕ) (ws : List ℕ) → change-of (found count n ws) ≡ change.Done → 0 < count
 unfolding found found-at
@@ -112,15 +131,19 @@ standing {st} {k = k} r w =
 pub names-of : (st : State) {s k : ℕ} (w : Seat s k (st .groups)) → names-at k st ≡ w .group .names
 names-of st w = ap (λ (g : Group). g .names) (seat-group w)
 
+-- the s_groups with other names there
+pub names-put : (st : State) {s k : ℕ} (w : Seat s k (st .groups)) (ns : List Entry) → with-names k ns st .groups ≡ w .before ++ renamed ns (w .group) ∷ w .after
+names-put st {k = k} w ns =
+    ap (λ (g : Group). set (st .groups) k (renamed ns g)) (seat-group w)
+    ∙ ap (λ (gs : List Group). set gs k (renamed ns (w .group))) (w .is) ∙ set-at (w .before) (w .group) (w .after) (renamed ns (w .group)) k (w .stands)
+
 -- its names are put anew
 pub held-names : {st : State} {s k : ℕ} {u : List ℕ} (w : Seat s k (st .groups)) (ns : List Entry) → Laid names-per-group (with-names k ns st) u
     → Laid names-per-group (apply s (hold (w .group .members) ns) st) u
 unfolding apply
 held-names {st} {s} {k} {u} w ns l =
     subst (λ (gs : List Group). Laid names-per-group (with-groups gs st) u)
-    (ap (λ (g : Group). set (st .groups) k (renamed ns g)) (seat-group w)
-    ∙ ap (λ (gs : List Group). set gs k (renamed ns (w .group))) (w .is) ∙ set-at (w .before) (w .group) (w .after) (renamed ns (w .group)) k (w .stands)
-    ∙ sym (w .putting (w .group .members) ns)) l
+    (names-put st w ns ∙ sym (w .putting (w .group .members) ns)) l
 
 -- the names that it has change nothing
 pub same-names : (k : ℕ) (st : State) → with-names k (names-at k st) st ≡ st

@@ -9,15 +9,16 @@ use native.Mathlib.Omega.{arith}
 use lib.Dec.{eqb}
 use lib.ListN.{length}
 use borrow.Author.Tests.{eqb-true, eq-eqb, ne-eqb}
+use Rattle.nodes.specs.Sets.{has}
 use Rattle.nodes.specs.Bools.{by-eq}
-use Rattle.entries.specs.Entries.{Entry, half-word, insert, remove, lookup, holds-pid}
+use Rattle.entries.specs.Entries.{Entry, half-word, host, insert, remove, lookup, holds-pid, drop-hosted}
 use Rattle.entries.specs.NamespaceSound.{Ascending}
-use Rattle.entries.specs.EntryLaws.{lookup-insert-same, lookup-insert-other, lookup-remove-same, lookup-remove-other, holds-pid-lookup}
+use Rattle.entries.specs.EntryLaws.{lookup-insert-same, lookup-insert-other, lookup-remove-same, lookup-remove-other, lookup-drop-hosted, lookup-drop-hosted-none, holds-pid-lookup}
 use Rattle.semantics.specs.Sizes.{group-names}
 use Rattle.semantics.specs.Ranges.{held}
 use Rattle.semantics.specs.Steps.{name-words}
 use Rattle.semantics.specs.Truth.{or-cases}
-use Rattle.published.specs.Published.{of-some, with-at, less-at, has-pid, OutputNs}
+use Rattle.published.specs.Published.{of-some, with-at, less-at, has-pid, less-hosted, OutputNs}
 use Rattle.published.specs.Seen as Seen
 use Rattle.published.specs.Seen.{how-many, chained}
 use Rattle.published.specs.SomeBelow.{any-hit, any-is}
@@ -41,6 +42,15 @@ remove-seen n es s m =
     (λ (e : n ≡ m). ap (λ (k : ℕ). lookup k (remove n es)) (sym e) ∙ lookup-remove-same 0 n es s ∙ rw (eq-eqb n m e))
     (λ (e : n ≡ m → ⊥). rw (ne-eqb n m) (lookup-remove-other m n es e))
     (by-eq n m)
+
+-- ---- the names of some hosts
+
+pub drop-hosted-seen : (set : ℕ) (es : List Entry) → Ascending 0 es → (m : ℕ) → lookup m (drop-hosted set es) ≡ less-hosted (has set) (λ k. lookup k es) m
+drop-hosted-seen set es s m = go (lookup m es) refl
+  where
+    go : (o : Option ℕ) → lookup m es ≡ o → lookup m (drop-hosted set es) ≡ of-some none (λ p. cond (has set (host p)) none (some p)) o
+    go none e = lookup-drop-hosted-none set m es e
+    go (some p) e = lookup-drop-hosted 0 set m p es s e
 
 -- ---- a pid
 

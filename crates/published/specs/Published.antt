@@ -21,6 +21,7 @@ Set = ℕ → Bool
 
 infixl 20 _∪_
 infixl 20 _∖_
+infixl 20 _∩_
 -- what is in a or in b
 abbrev pub _∪_ : Set → Set → Set
 _∪_ a b i = a i || b i
@@ -28,6 +29,10 @@ _∪_ a b i = a i || b i
 -- what is in a and not in b
 abbrev pub _∖_ : Set → Set → Set
 _∖_ a b i = a i && not (b i)
+
+-- what is in a and in b
+abbrev pub _∩_ : Set → Set → Set
+_∩_ a b i = a i && b i
 
 -- k alone
 abbrev pub only : ℕ → Set
@@ -281,6 +286,10 @@ leaving s nis grs X = NewFreeNodes (record { grs = grs; fgs = X .fgs; fhs = X .f
 abbrev pub has-pid : ℕ → Namespace → Bool
 has-pid p ns = any half-word (λ n. of-some false (λ q. eqb q p) (ns n))
 
+-- ns less the names whose pid lives on a node of nis (02, request 2)
+abbrev pub less-hosted : Set → Namespace → Namespace
+less-hosted nis ns n = of-some none (λ p. cond (nis (host p)) none (some p)) (ns n)
+
 -- what whereis_name/2 finds for ni
 abbrev pub found-by : ℕ → ℕ → ℕ → Map SGroup → Option ℕ
 found-by ni s n grs = cond (IsSGroupSNode ni s grs) (FindName ni s n grs) none
@@ -316,11 +325,12 @@ transition (NewSGroup s set) ni X =
 transition (AddNodes s set) ni X =
     as-member ni s Error X λ g. gives (Grp s (has set)) (joining s (has set) (g .nodes ∪ has set) (g .namespace) X)
 transition (DeleteSGroup s) ni X = as-member ni s Error X λ g. gives True (leaving s (g .nodes) (less-at s (X .grs)) X)
--- the caller may leave too, and an s_group left empty goes (01)
+-- the caller may leave too, and an s_group left empty goes (01); the members that leave take along the names whose pid lives on one of them (02)
 transition (Command.RemoveNodes s set) ni X =
     as-member ni s Error X λ g.
     let left : Set = g .nodes ∖ has set in
-    let grs : Map SGroup = cond (any node-limit left) (with-at s (record { nodes = left; namespace = g .namespace }) (X .grs)) (less-at s (X .grs)) in
+    let ns : Namespace = less-hosted (g .nodes ∩ has set) (g .namespace) in
+    let grs : Map SGroup = cond (any node-limit left) (with-at s (record { nodes = left; namespace = ns }) (X .grs)) (less-at s (X .grs)) in
     gives True (leaving s (has set) grs X)
 transition OwnNodes ni X = gives (Nis (OwnGroupNis ni X)) X
 transition OwnSGroups ni X = gives (Snis (cond (IsSGroupNode ni (X .grs)) (OutputOwnSGroups ni (X .grs)) (λ s. none))) X

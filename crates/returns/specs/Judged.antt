@@ -194,7 +194,7 @@ module _ (room i : ℕ) (st : State) where
         (by-creation (say Error) (st .size) (length (st .groups)) i s set (held (find s (st .groups))) _)
 
     pub step-remove : Judging room i (RemoveNodes s set) st (set-reason (st .size) i s set) (for-member i (find s (st .groups)) st (λ g.
-        reply True Done (become-free (inter (g .members) set) (left-in s (diff (g .members) set) (g .names) (st .groups)) st)))
+        reply True Done (become-free (inter (g .members) set) (left-in s set g (st .groups)) st)))
     unfolding step rule
     step-remove = record { is = by-set (refusal st) (st .size) i s set _ }
 

@@ -13,6 +13,8 @@ use borrow.Author.Tests.{eqb-true, eqb-false, lt-ltb}
 use Rattle.nodes.specs.Sets.{has, empty, union, inter, diff}
 use Rattle.nodes.specs.Bools.{by-test}
 use Rattle.nodes.specs.SetLaws.{has-union, has-inter, has-diff, has-none, has-below, below-pow, none-inter, inter-le-l, diff-le, union-all-in, union-all-out, subset-diff}
+use Rattle.entries.specs.Entries.{Entry, drop-hosted}
+use Rattle.entries.specs.NamespaceKept.{sound-drop-hosted}
 use Rattle.semantics.specs.Sizes.{group-limit}
 use Rattle.semantics.specs.State.{Group, State, with-groups, free-of, find, put, drop-group, all-members}
 use Rattle.semantics.specs.Steps.{zip-with, interconnect, lot, near, touched, become-free, left-in}
@@ -138,19 +140,20 @@ module _ {cap : ℕ} {st : State} (w : Regular cap st) (s : ℕ) (g : Group) (f 
 
   -- some are left
   pub regular-remove : (set : ℕ) → empty (diff (g .members) set) ≡ false
-      → Regular cap (become-free (inter (g .members) set) (put s (diff (g .members) set) (g .names) (st .groups)) st)
+      → Regular cap (become-free (inter (g .members) set) (put s (diff (g .members) set) (drop-hosted (inter (g .members) set) (g .names)) (st .groups)) st)
   regular-remove set manned =
       let m : ℕ = diff (g .members) set in
-      regular-become-free w (inter (g .members) set) (put s m (g .names) (st .groups)) (omega (arith, length-put s m (g .names) (st .groups), w .groups-few))
-      (rising-put s m (g .names) 0 (st .groups) (w .rising))
-      (every-put (Regular-group cap (st .size)) (Regular-group cap (st .size)) s m (g .names) (λ k p. p)
+      let ns : List Entry = drop-hosted (inter (g .members) set) (g .names) in
+      regular-become-free w (inter (g .members) set) (put s m ns (st .groups)) (omega (arith, length-put s m ns (st .groups), w .groups-few))
+      (rising-put s m ns 0 (st .groups) (w .rising))
+      (every-put (Regular-group cap (st .size)) (Regular-group cap (st .size)) s m ns (λ k p. p)
       (record {
         small = small-name w s g f;
         some-member = eqb-false m 0 manned;
         on-roster = lt-of-le-of-lt (diff-le (g .members) set) (regular-found w s g f .on-roster);
-        names-sound = regular-found w s g f .names-sound;
+        names-sound = sound-drop-hosted cap (st .size) (inter (g .members) set) (g .names) (regular-found w s g f .names-sound);
       }) (st .groups) (w .each))
-      (every-put (Met (st .links)) (Met (st .links)) s m (g .names) (λ k p. p)
+      (every-put (Met (st .links)) (Met (st .links)) s m ns (λ k p. p)
       (λ i j a b n. of-found s (st .groups) g f (Met (st .links)) (w .met) i j (still set i a) (still set j b) n) (st .groups) (w .met))
       (parted set) (lt-of-le-of-lt (inter-le-l (g .members) set) (regular-found w s g f .on-roster))
     where
@@ -158,11 +161,11 @@ module _ {cap : ℕ} {st : State} (w : Regular cap st) (s : ℕ) (g : Group) (f 
       still set i h = and-eq-true-iff (has (g .members) i) _ .0 (sym (has-diff (g .members) set i) ∙ h) .0
 
       parted : (set i : ℕ) → has (all-members (st .groups)) i
-          ≡ has (all-members (put s (diff (g .members) set) (g .names) (st .groups))) i || has (inter (g .members) set) i
+          ≡ has (all-members (put s (diff (g .members) set) (drop-hosted (inter (g .members) set) (g .names)) (st .groups))) i || has (inter (g .members) set) i
       parted set i =
           all-found s (st .groups) g (place w s g f) i ∙ split (has (all-members (drop-group s (st .groups))) i) (has (g .members) i) (has set i)
           ∙ sym (ap₂ (λ (x y : Bool). x || y)
-          (all-put s (st .groups) g (place w s g f) (diff (g .members) set) (g .names) i
+          (all-put s (st .groups) g (place w s g f) (diff (g .members) set) (drop-hosted (inter (g .members) set) (g .names)) i
           ∙ ap (λ (x : Bool). has (all-members (drop-group s (st .groups))) i || x) (has-diff (g .members) set i)) (has-inter (g .members) set i))
         where
           split : (a x t : Bool) → a || x ≡ (a || (x && not t)) || (x && t)
@@ -175,7 +178,7 @@ module _ {cap : ℕ} {st : State} (w : Regular cap st) (s : ℕ) (g : Group) (f 
   pub regular-empty : (set : ℕ) → empty (diff (g .members) set) ≡ true → Regular cap (become-free (inter (g .members) set) (drop-group s (st .groups)) st)
   regular-empty set e = rw (eqb-true (inter (g .members) set) (g .members) (subset-diff (g .members) set ∙ e)) regular-delete
 
-  pub regular-left-in : (set : ℕ) → Regular cap (become-free (inter (g .members) set) (left-in s (diff (g .members) set) (g .names) (st .groups)) st)
+  pub regular-left-in : (set : ℕ) → Regular cap (become-free (inter (g .members) set) (left-in s set g (st .groups)) st)
   regular-left-in set =
       ⊎-elim (λ (e : empty (diff (g .members) set) ≡ true). rw e (regular-empty set e)) (λ (e : empty (diff (g .members) set) ≡ false). rw e (regular-remove set e))
       (by-test (empty (diff (g .members) set)))

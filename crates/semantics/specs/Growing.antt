@@ -11,7 +11,7 @@ use lib.ListN.{length, getD}
 use borrow.Author.Tests.{leb-false}
 use Rattle.nodes.specs.Sets.{node-limit, has, empty, single, union, inter, diff, beyond}
 use Rattle.nodes.specs.Bools.{by-test}
-use Rattle.entries.specs.Entries.{Entry, host, lookup, holds-pid}
+use Rattle.entries.specs.Entries.{host, lookup, holds-pid, drop-hosted}
 use Rattle.semantics.specs.Sizes.{group-limit, names-per-group, group-names, links-at}
 use Rattle.semantics.specs.State.{Group, State, with-groups, with-links, with-free, free-of, find, put, add-group, drop-group}
 use Rattle.commands.specs.declared.Command.{Command}
@@ -178,12 +178,12 @@ send-on-grows i none st = same
 send-on-grows i (some p) st = connect-grows i (host p) st
 
 -- no s_group comes when members leave one
-left-in-few : (s m : ℕ) (ns : List Entry) (gs : List Group) → length (left-in s m ns gs) ≤ length gs
-left-in-few s m ns gs = go (empty m)
+left-in-few : (s set : ℕ) (g : Group) (gs : List Group) → length (left-in s set g gs) ≤ length gs
+left-in-few s set g gs = go (empty (diff (g .members) set))
   where
-    go : (x : Bool) → length (cond x (drop-group s gs) (put s m ns gs)) ≤ length gs
+    go : (x : Bool) → length (cond x (drop-group s gs) (put s (diff (g .members) set) (drop-hosted (inter (g .members) set) (g .names)) gs)) ≤ length gs
     go true = length-drop-group s gs
-    go false = omega (arith, length-put s m ns gs)
+    go false = omega (arith, length-put s (diff (g .members) set) (drop-hosted (inter (g .members) set) (g .names)) gs)
 
 -- a rule takes no connection away
 rule-grows : (room i : ℕ) (c : Command) (st : State) → Grown st (rule room i c st .next)
@@ -201,7 +201,7 @@ rule-grows room i (Send p) st = result-if (leb (st .size) (host p)) _ _ same (co
 rule-grows room i (SendName s n) st = result-if (bad-group s) _ _ same (result-if (eqb n 0) _ _ same (send-on-grows i (ask i s n st .found) st))
 rule-grows room i (RemoveNodes s set) st =
     result-if (bad-group s) _ _ same (result-if (beyond set (st .size)) _ _ same (result-member i (find s (st .groups)) _ λ g.
-    become-free-grows (inter (g .members) set) _ st (left-in-few s (diff (g .members) set) (g .names) (st .groups))))
+    become-free-grows (inter (g .members) set) _ st (left-in-few s set g (st .groups))))
 rule-grows room i (DeleteSGroup s) st =
     result-if (bad-group s) _ _ same (result-member i (find s (st .groups)) _ λ g.
     become-free-grows (g .members) (drop-group s (st .groups)) st (length-drop-group s (st .groups)))

@@ -7,7 +7,7 @@ use Prim.Native.Nat.{ℕ, suc, _*_, _+_}
 use lib.Dec.{eqb, leb, ltb}
 use lib.ListN.{length, replicate}
 use Rattle.nodes.specs.Sets.{node-limit, has, empty, single, union, inter, diff, beyond, count, union-all}
-use Rattle.entries.specs.Entries.{Entry, half-word, host, insert, remove, lookup, holds-pid}
+use Rattle.entries.specs.Entries.{Entry, half-word, host, insert, remove, lookup, holds-pid, drop-hosted}
 use Rattle.commands.specs.declared.Command.{Command}
 use Rattle.commands.specs.declared.Command.the-variants.{RegisterName, ReRegisterName, UnregisterName, RegisteredNames, WhereisName, WhereisNameAt, Send, SendName, SendAt, NewSGroup, AddNodes, RemoveNodes, DeleteSGroup, OwnNodes, OwnSGroups}
 use Rattle.semantics.specs.GroupCommands.{GroupCommand, register-name, re-register-name, unregister-name, whereis-name, registered-names, add-nodes, new-s-group}
@@ -263,9 +263,12 @@ abbrev pub for-member : ℕ → Option Group → State → (Group → Result) �
 for-member i none st k = error GroupUnknown st
 for-member i (some g) st k = cond (has (g .members) i) (k g) (error NotMember st)
 
--- the s_groups when members m are left in s: a group left empty is deleted
-abbrev pub left-in : ℕ → ℕ → List Entry → List Group → List Group
-left-in s m ns gs = cond (empty m) (drop-group s gs) (put s m ns gs)
+-- the s_groups when the members of g, which is s, that are in the set have left it: each takes along the names whose pid lives on it
+-- (02, request 2), and a group left empty is deleted
+abbrev pub left-in : ℕ → ℕ → Group → List Group → List Group
+left-in s set g gs =
+    cond (empty (diff (g .members) set)) (drop-group s gs)
+    (put s (diff (g .members) set) (drop-hosted (inter (g .members) set) (g .names)) gs)
 
 -- the nodes of node i's groups: its free normal group; alone, where hidden and free; else those of its s_groups
 abbrev pub own-set : ℕ → State → ℕ
@@ -305,7 +308,7 @@ rule room i (RemoveNodes s set) st =
     cond (bad-group s) (error GroupNameRange st)
     (cond (beyond set (st .size)) (error NodeUnknown st)
     (for-member i (find s (st .groups)) st (λ g.
-    reply True Done (become-free (inter (g .members) set) (left-in s (diff (g .members) set) (g .names) (st .groups)) st))))
+    reply True Done (become-free (inter (g .members) set) (left-in s set g (st .groups)) st))))
 rule room i (DeleteSGroup s) st =
     cond (bad-group s) (error GroupNameRange st)
     (for-member i (find s (st .groups)) st (λ g.

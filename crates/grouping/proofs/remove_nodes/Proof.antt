@@ -3,12 +3,16 @@
 use borrow.Author.Needs.{needs}
 use Prim.Native.Nat.{_<_}
 use native.Mathlib.Omega.{arith}
+use mathlib.Core.List.{List}
+use Rattle.entries.specs.Entries.{Entry, drop-hosted}
 use Rattle.semantics.specs.Sizes.{group-limit}
 use Rattle.semantics.specs.Table.{state-of}
 use Rattle.semantics.specs.Steps.{become-free}
 use Rattle.place.specs.declared.Access.the-variants.{Member, Denied}
 use Rattle.place.specs.Seats.{Open}
-use Rattle.place.specs.Sound.{here, base, groups-few, nodes-few, granted-here, seat-below}
+use Rattle.place.specs.Sound.{here, regular, base, groups-few, nodes-few, granted-here, seat-below}
+use Rattle.names.specs.NamesAt.{names-at, renamed, with-names}
+use Rattle.names.specs.NamesHere.{standing, names-put}
 use Rattle.returns.specs.Judged.{refused}
 use Rattle.returns.specs.Shown.{says-kept}
 use Rattle.grouping.specs.Grouping.{seat-few, turned-away, step-removed, remove-left, remove-all, apart-deleted, apart-left}
@@ -107,11 +111,14 @@ returns-2 c =
     (d .diff .result) (d .diff .ensures) (f .become-free .last .0) (i .if1 .taken)
     (f .become-free .ensures _ (e .delete-group .ensures (here t) (base t (p .pre .1)) (r .before) (r .after) (r .group) (r .is) (r .stands)) (apart-deleted t (p .pre .1) r)))
 
-set-members-requires : tie.Need-set-members-requires
-set-members-requires c κs = (search needs, few (c .before .before .before .before))
-
 inter-requires : tie.Need-inter-requires
 inter-requires c κs = search needs
+
+drop-hosted-requires : tie.Need-drop-hosted-requires
+drop-hosted-requires c κs = (search needs, few (c .before .before .before .before .before))
+
+set-members-requires : tie.Need-set-members-requires
+set-members-requires c κs = (search needs, few (c .before .before .before .before .before .before .before .before .before))
 
 become-free-requires-2 : tie.Need-become-free-requires-2
 become-free-requires-2 c κs = search needs
@@ -141,19 +148,22 @@ returns-4 : tie.Need-returns-4
 unfolding state-of become-free
 returns-4 c =
     let f = c .before .before .before in
-    let n = f .before in
-    let m = n .before .before .before .before in
-    let i = m .before .before in
+    let m = f .before .before .before .before in
+    let h = m .before .before .before .before in
+    let n = h .before .before in
+    let i = n .before in
     let d = i .before in
     let k = d .before .before in
     let j = k .before .before .before .before .before in
     let p = start j in
     let t = p .args .t .now in
     let r = found k .seat in
+    let ns : List Entry = drop-hosted (n .inter .result) (names-at (k .before .at .given .0 .0) (here t)) in
     rw (c .done2 .ensures) (remove-left t (p .pre .1) (p .args .caller) (p .args .s) (p .args .set) (j .before .before .set-reason .ensures) (j .enum-told .given .1) (found k)
     (d .diff .result) (d .diff .ensures) (f .become-free2 .last .0) (i .if1 .left) (n .inter .result) (n .inter .ensures)
-    (f .become-free2 .ensures _ (m .set-members .ensures (here t) (base t (p .pre .1)) (r .before) (r .after) (r .group) (r .is) (r .stands))
-    (apart-left t (p .pre .1) r (p .args .set) (d .diff .result) (d .diff .ensures))))
+    (f .become-free2 .ensures _ (m .set-members .ensures (with-names (k .before .at .given .0 .0) ns (here t))
+    (h .drop-hosted .ensures (here t) (base t (p .pre .1)) (standing (regular t (p .pre .1)) r)) (r .before) (r .after) (renamed ns (r .group)) (names-put (here t) r ns) (r .stands))
+    (apart-left t (p .pre .1) r (p .args .set) (d .diff .result) ns (d .diff .ensures))))
 
 pub remove-nodes-spec : {M : Type 1} → statement M
 remove-nodes-spec =
@@ -178,8 +188,9 @@ remove-nodes-spec =
     done-requires
     same-length
     returns-2
-    set-members-requires
     inter-requires
+    drop-hosted-requires
+    set-members-requires
     become-free-requires-2
     done-requires-2
     same-length-2

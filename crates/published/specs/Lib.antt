@@ -23,6 +23,7 @@ pub mod Fair
 pub mod Classes
 pub mod FreeGroups
 pub mod Listed
+pub mod NamesThatLeft
 -- ---- what is seen of a state: "for some number", lists of a map, s_groups, names, connections and free groups
 pub mod SomeBelow
 pub mod Concatenated

@@ -1,0 +1,179 @@
+-- What remove_nodes leaves of the names (02, request 2), as lookups find them: a name whose pid lives on a member that left is found by nobody in that
+-- s_group, those who stay find every other name as before, and the other s_groups are as they were. Assumes nothing.
+use mathlib.Core.Path.{_≡_, refl, sym, ap, _∙_, subst}
+use mathlib.Core.Bool.{Bool, true, false, not, _&&_, cond, true≢false}
+use mathlib.Core.Option.{Option, none, some}
+use mathlib.Core.List.{List}
+use Prim.Native.Nat.{ℕ, _<_}
+use native.Mathlib.Omega.{arith}
+use lib.Dec.{eqb}
+use borrow.Author.Tests.{eq-eqb, ne-eqb}
+use Rattle.nodes.specs.NodeSets.{node-limit, has}
+use Rattle.entries.specs.Pids.{host}
+use Rattle.entries.specs.EntryLaws.{held-or-not}
+use Rattle.commands.specs.declared.Command.{Command}
+use Rattle.commands.specs.declared.Command.the-variants.{WhereisName, RemoveNodes}
+use Rattle.answers.specs.Answers.{answer-of}
+use Rattle.answers.specs.declared.Answer.{Answer}
+use Rattle.answers.specs.declared.Value.{Value}
+use Rattle.answers.specs.declared.Value.the-variants as W
+use Rattle.answers.specs.declared.Reason.{Reason}
+use Rattle.answers.specs.declared.Reason.the-variants.{Done}
+use Rattle.semantics.specs.Sizes.{names-per-group}
+use Rattle.semantics.specs.Soundness.{Sound}
+use Rattle.semantics.specs.FirstReason.{first}
+use Rattle.semantics.specs.Fits.{Fits}
+use Rattle.semantics.specs.Call.{call}
+use Rattle.semantics.specs.Calls.{calls-keep-sound}
+use Rattle.published.specs.Published.{Set, Map, of-some, _∖_, _∩_, any, with-at, less-at, Namespace, SGroup, Published, IsSGroupSNode, FindName, MergeFreeNormalGroups, AddFreeNormalGroup, NewFreeNodes, Step, True, Error, Undefined, Pid, gives, leaving, less-hosted, transition}
+use Rattle.published.specs.SomeBelow.{any-hit}
+use Rattle.published.specs.SeenState.{said, seen-table}
+use Rattle.published.specs.Refusals.{tests, ruled, refusal, Answered, answer}
+use Rattle.published.specs.Exact.{exact-call}
+
+-- ---- nodes that become free change no s_group
+
+either : (x : Bool) (X Y Z : Published) → Y .grs ≡ X .grs → Z .grs ≡ X .grs → cond x Y Z .grs ≡ X .grs
+either true X Y Z p q = p
+either false X Y Z p q = q
+
+merged-keeps : (nis css : Set) (X : Published) → MergeFreeNormalGroups nis css X .grs ≡ X .grs
+unfolding MergeFreeNormalGroups
+merged-keeps nis css X = either (not (any node-limit nis)) X X _ refl (either (not (any node-limit css)) X _ _ refl refl)
+
+freed-keeps : (X : Published) → NewFreeNodes X .grs ≡ X .grs
+unfolding NewFreeNodes AddFreeNormalGroup
+freed-keeps X = merged-keeps _ _ _
+
+-- the state when the nodes of the set have left the s_group h, which is s
+abbrev removed : ℕ → ℕ → SGroup → Published → Published
+removed s set h X =
+    leaving s (has set)
+    (cond (any node-limit (h .nodes ∖ has set)) (with-at s (record { nodes = h .nodes ∖ has set; namespace = less-hosted (h .nodes ∩ has set) (h .namespace) }) (X .grs)) (less-at s (X .grs))) X
+
+-- ---- a removal by the member ni of the s_group g, which is s
+
+module _ (s set ni : ℕ) (X : Published) (g : SGroup) (is : X .grs s ≡ some g) (member : g .nodes ni ≡ true) where
+  -- those who leave, and those who stay
+  abbrev leave : Set
+  leave = g .nodes ∩ has set
+
+  abbrev stay : Set
+  stay = g .nodes ∖ has set
+
+  -- the s_group of those who stay
+  abbrev rest : SGroup
+  rest = record { nodes = stay; namespace = less-hosted leave (g .namespace) }
+
+  -- the s_groups afterwards
+  abbrev after : Map SGroup
+  after = transition (RemoveNodes s set) ni X .state .grs
+
+  after-is : after ≡ cond (any node-limit stay) (with-at s rest (X .grs)) (less-at s (X .grs))
+  unfolding transition
+  after-is =
+      ap (λ (o : Option SGroup). of-some (gives Error X) (λ h. cond (h .nodes ni) (gives True (removed s set h X)) (gives Error X)) o .state .grs) is
+      ∙ ap (λ (x : Bool). cond x (gives True (removed s set g X)) (gives Error X) .state .grs) member ∙ freed-keeps _
+
+  -- other s_groups have the members and names that they had
+  pub others-stay : (t : ℕ) → (s ≡ t → ⊥) → after t ≡ X .grs t
+  others-stay t n = ap (λ (m : Map SGroup). m t) after-is ∙ go (any node-limit stay)
+    where
+      go : (x : Bool) → cond x (with-at s rest (X .grs)) (less-at s (X .grs)) t ≡ X .grs t
+      go true = rw (ne-eqb s t)
+      go false = rw (ne-eqb s t)
+
+  after-s : after s ≡ cond (any node-limit stay) (some rest) none
+  after-s = ap (λ (m : Map SGroup). m s) after-is ∙ go (any node-limit stay)
+    where
+      go : (x : Bool) → cond x (with-at s rest (X .grs)) (less-at s (X .grs)) s ≡ cond x (some rest) none
+      go true = rw (eq-eqb s s refl)
+      go false = rw (eq-eqb s s refl)
+
+  -- a pid that is found there lives on no member that left
+  pub moved-away : (j n p : ℕ) → FindName j s n after ≡ some p → leave (host p) ≡ false
+  moved-away j n p e =
+      go (eqb s 0) (any node-limit stay)
+      (sym (ap (λ (o : Option SGroup). cond (eqb s 0) none (of-some none (λ h. cond (h .nodes j) (h .namespace n) none) o)) after-s) ∙ e)
+    where
+      kept : (q : ℕ) (x : Bool) → leave (host q) ≡ x → cond x none (some q) ≡ some p → leave (host p) ≡ false
+      kept q true l r = held-or-not r
+      kept q false l r = let same : q ≡ p = cc in ap (λ (k : ℕ). leave (host k)) (sym same) ∙ l
+
+      here : (x : Bool) (o : Option ℕ) → cond x (of-some none (λ q. cond (leave (host q)) none (some q)) o) none ≡ some p → leave (host p) ≡ false
+      here false o r = held-or-not r
+      here true none r = held-or-not r
+      here true (some q) r = kept q (leave (host q)) refl r
+
+      go : (x y : Bool) → cond x none (of-some none (λ h. cond (h .nodes j) (h .namespace n) none) (cond y (some rest) none)) ≡ some p → leave (host p) ≡ false
+      go true y r = held-or-not r
+      go false false r = held-or-not r
+      go false true r = here (stay j) (g .namespace n) r
+
+  -- a member that stays finds what it found, but for those
+  pub others-found : (j n : ℕ) → j < node-limit → stay j ≡ true → FindName j s n after ≡ less-hosted leave (λ m. FindName j s m (X .grs)) n
+  others-found j n l h =
+      ap (λ (o : Option SGroup). cond (eqb s 0) none (of-some none (λ k. cond (k .nodes j) (k .namespace n) none) o))
+      (after-s ∙ ap (λ (x : Bool). cond x (some rest) none) (any-hit node-limit stay j l h))
+      ∙ rw (h, is) (go (eqb s 0) (g .nodes j) (was (g .nodes j) (has set j) h))
+    where
+      was : (x y : Bool) → x && not y ≡ true → x ≡ true
+      was true y e = refl
+      was false y e = e
+
+      go : (x y : Bool) → y ≡ true → cond x none (less-hosted leave (g .namespace) n)
+          ≡ of-some none (λ p. cond (leave (host p)) none (some p)) (cond x none (cond y (g .namespace n) none))
+      go true y e = refl
+      go false true e = refl
+      go false false e = absurd (true≢false (sym e))
+
+-- ---- on tables
+
+-- an accepted call does what 000's rule says
+accepted : (room i : ℕ) (c : Command) (t : List ℕ) → Sound names-per-group t → Fits c → (v : Value) → call room i c t .answer ≡ answer-of v Done
+    → (said (transition c i (seen-table t) .value) .0 ≡ v) × (seen-table (call room i c t .table) ≡ transition c i (seen-table t) .state)
+unfolding answer
+accepted room i c t h fits v a =
+    let e = exact-call room i c t h fits in
+    let X : Published = seen-table t in
+    let why : Reason = first (tests room c i X) in
+    let r : why ≡ Done = sym (ap (λ (x : Answered). x .answer .reason) e) ∙ ap (λ (x : Answer). x .reason) a in
+    let q : cond (ruled why) (transition c i X) (gives (refusal why) X) ≡ transition c i X = ap (λ (x : Reason). cond (ruled x) (transition c i X) (gives (refusal x) X)) r in (
+      sym (ap (λ (x : Step). said (x .value) .0) q) ∙ sym (ap (λ (x : Answered). x .answer .value) e) ∙ ap (λ (x : Answer). x .value) a,
+      ap (λ (x : Answered). x .state) e ∙ ap (λ (x : Step). x .state) q,
+    )
+
+module _ (i s set : ℕ) (t : List ℕ) (h : Sound names-per-group t) (fits : Fits (RemoveNodes s set)) (g : SGroup) (is : seen-table t .grs s ≡ some g)
+    (done : call 0 i (RemoveNodes s set) t .answer ≡ answer-of W.True Done) where
+  -- who is heard is a member
+  by-member : g .nodes i ≡ true
+  unfolding transition
+  by-member = go (g .nodes i) refl
+    where
+      X : Published
+      X = seen-table t
+
+      go : (x : Bool) → g .nodes i ≡ x → x ≡ true
+      go true e = refl
+      go false e =
+          let v : W.Error ≡ W.True =
+          sym (ap (λ (o : Option SGroup). said (of-some (gives Error X) (λ k. cond (k .nodes i) (gives True (removed s set k X)) (gives Error X)) o .value) .0) is
+          ∙ ap (λ (x : Bool). said (cond x (gives True (removed s set g X)) (gives Error X) .value) .0) e)
+          ∙ accepted 0 i (RemoveNodes s set) t h fits W.True done .0 in
+          let z : _≡_ {A = ℕ} 0 1 = cc in absurd (omega arith)
+
+  -- A node that left is not found there any more: no plain lookup in the s_group, by whatever node, answers a pid of a member that this call removed
+  pub not-found : (j n p : ℕ) → Fits (WhereisName s n) → call 0 j (WhereisName s n) (call 0 i (RemoveNodes s set) t .table) .answer ≡ answer-of (W.Pid p) Done
+      → g .nodes (host p) && has set (host p) ≡ false
+  unfolding transition
+  not-found j n p f e =
+      let u : List ℕ = call 0 i (RemoveNodes s set) t .table in
+      let a = accepted 0 j (WhereisName s n) u (calls-keep-sound 0 i (RemoveNodes s set) t fits h) f (W.Pid p) e in
+      moved-away s set i (seen-table t) g is by-member j n p
+      (subst (λ (Y : Published). FindName j s n (Y .grs) ≡ some p) (accepted 0 i (RemoveNodes s set) t h fits W.True done .1)
+      (asked (IsSGroupSNode j s (seen-table u .grs)) (FindName j s n (seen-table u .grs)) (a .0)))
+    where
+      asked : (x : Bool) (o : Option ℕ) → said (of-some Undefined Pid (cond x o none)) .0 ≡ W.Pid p → o ≡ some p
+      asked true (some q) r = let same : q ≡ p = cc in ap some same
+      asked true none r = let z : _≡_ {A = ℕ} 0 1 = cc in absurd (omega arith)
+      asked false o r = let z : _≡_ {A = ℕ} 0 1 = cc in absurd (omega arith)

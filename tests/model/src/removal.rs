@@ -79,6 +79,7 @@ struct Removal<'a> {
 }
 
 impl Removal<'_> {
+    /// Whether the removal does this.
     fn has(&self, effect: Effect) -> bool {
         let stays = self.leaving != self.group.members;
         let hosts: Vec<u32> = self.group.names.values().map(|p| host_of(*p)).collect();

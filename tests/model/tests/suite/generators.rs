@@ -179,7 +179,14 @@ impl Removals {
             return;
         };
         self.granted += 1;
-        for effect in effects(before, *caller, *s, set) {
+        let done = effects(before, *caller, *s, set);
+        let names = |state: &State| state.s_groups.get(s).map(|group| group.names.len());
+        let left = seen.after.as_ref().and_then(names);
+        assert_eq!(
+            done.contains(&Effect::Drops),
+            left.is_some() && left < names(before)
+        );
+        for effect in done {
             *self.effects.entry(effect).or_default() += 1;
         }
     }

@@ -131,7 +131,8 @@ uint32_t sgroup_new_s_group(uint64_t *table, size_t table_len, uint32_t caller, 
 /* The nodes of `set` join s. GROUP. Reasons 8 and 9: ERROR. */
 uint32_t sgroup_add_nodes(uint64_t *table, size_t table_len, uint32_t caller, uint32_t s, uint64_t set, uint64_t *answer, size_t answer_len);
 
-/* The members of s that are in `set` leave it; an s_group left empty is deleted. TRUE. Reasons 8 and 9: ERROR. */
+/* The members of s that are in `set` leave it, and the names of s whose pids they host are dropped; every other name of s and all names of other s_groups
+ * stay. An s_group left empty is deleted with its names. TRUE. Reasons 8 and 9: ERROR. */
 uint32_t sgroup_remove_nodes(uint64_t *table, size_t table_len, uint32_t caller, uint32_t s, uint64_t set, uint64_t *answer,
                              size_t answer_len);
 

@@ -112,7 +112,7 @@ fn full() -> Vec<u8> {
     }
     for group in (1..=32u64).rev() {
         script.push_str(&format!(
-            "{0} remove_nodes {group} {1}\n{0} delete_s_group {group}\n{0} own_nodes\n",
+            "{0} remove_nodes {group} {1}\n{0} registered_names {group}\n{0} delete_s_group {group}\n{0} own_nodes\n",
             group % 64,
             0xFFu64.rotate_left(group as u32 + 8)
         ));

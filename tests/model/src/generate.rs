@@ -7,7 +7,7 @@ use crate::malformed::{malformed, Fault};
 use crate::prng::Prng;
 use crate::rules::Law;
 use crate::script::{Session, LONGEST_SCRIPT};
-use crate::state::{set_of, word_of, NodeSet, State, PIDS_PER_HOST};
+use crate::state::{host_of, set_of, word_of, NodeSet, State, MOST_NAMES, PIDS_PER_HOST};
 
 /// What a stretch of lines is about.
 #[derive(Clone, Copy, Debug, PartialEq, Eq)]
@@ -16,7 +16,7 @@ enum Theme {
     Anything,
     /// Names of one group come and go.
     Naming,
-    /// One namespace is filled to the brim.
+    /// One namespace is filled to the brim, and hosts of its names are removed.
     Filling,
     /// Small groups until there are too many.
     Crowding,
@@ -24,6 +24,9 @@ enum Theme {
     Growing,
     /// Members leave and groups go.
     Thinning,
+    /// Names of one group are registered for members and others, and their hosts
+    /// are removed.
+    Leaving,
     /// Links among free, grouped and hidden nodes.
     Linking,
     /// Members link to several free groups and are then set free.
@@ -34,7 +37,7 @@ enum Theme {
     Asking,
 }
 
-const THEMES: [Theme; 16] = [
+const THEMES: [Theme; 19] = [
     Theme::Anything,
     Theme::Naming,
     Theme::Naming,
@@ -44,6 +47,9 @@ const THEMES: [Theme; 16] = [
     Theme::Growing,
     Theme::Thinning,
     Theme::Thinning,
+    Theme::Leaving,
+    Theme::Leaving,
+    Theme::Leaving,
     Theme::Linking,
     Theme::Linking,
     Theme::Freeing,
@@ -215,7 +221,9 @@ impl Generator {
         use Form::*;
         let groups = self.group_names();
         match self.theme {
-            Theme::Naming | Theme::Filling if !groups.contains(&self.focus) => &[NewSGroup],
+            Theme::Naming | Theme::Filling | Theme::Leaving if !groups.contains(&self.focus) => {
+                &[NewSGroup]
+            }
             Theme::Growing | Theme::Freeing if groups.is_empty() => &[NewSGroup],
             Theme::Thinning if groups.is_empty() => &[SendPid],
             Theme::Anything => &Form::ALL,
@@ -223,19 +231,45 @@ impl Generator {
                 RegisterName, RegisterName, ReRegisterName, UnregisterName, RegisteredNames,
                 WhereisName, SendName,
             ],
-            Theme::Filling => &[
-                RegisterName, RegisterName, RegisterName, RegisterName, RegisterName,
-                ReRegisterName,
-            ],
+            Theme::Filling => self.filling_forms(),
             Theme::Crowding => &[NewSGroup],
             Theme::Growing => &[NewSGroup, AddNodes, AddNodes],
             Theme::Thinning => &[RemoveNodes, RemoveNodes, DeleteSGroup, OwnNodes],
+            Theme::Leaving => self.leaving_forms(),
             Theme::Linking => &[SendPid, SendPid, SendPid, OwnNodes],
             Theme::Freeing => &[
                 NewSGroup, SendPid, SendPid, SendPid, SendPid, DeleteSGroup, RemoveNodes, OwnNodes,
             ],
             Theme::Remote => &[WhereisNameAt, WhereisNameAt, SendNameAt, SendNameAt, SendPid],
             Theme::Asking => &[OwnNodes, OwnSGroups, RegisteredNames, WhereisName],
+        }
+    }
+
+    /// A namespace is filled, and once it is full, hosts are removed.
+    #[rustfmt::skip]
+    fn filling_forms(&self) -> &'static [Form] {
+        use Form::*;
+        if self.members(self.focus).len() < 2 {
+            &[AddNodes, RegisterName]
+        } else if self.names_in(self.focus).len() < MOST_NAMES {
+            &[
+                RegisterName, RegisterName, RegisterName, RegisterName, RegisterName,
+                ReRegisterName,
+            ]
+        } else {
+            &[RegisterName, ReRegisterName, RemoveNodes]
+        }
+    }
+
+    /// Members and names first, then hosts are removed.
+    fn leaving_forms(&self) -> &'static [Form] {
+        use Form::*;
+        if self.members(self.focus).len() < 3 {
+            &[AddNodes, AddNodes, RegisterName, RemoveNodes]
+        } else if self.names_in(self.focus).len() < 4 {
+            &[RegisterName]
+        } else {
+            &[RegisterName, RemoveNodes, RemoveNodes, RegisteredNames]
         }
     }
 
@@ -306,7 +340,7 @@ impl Generator {
         if remote && self.prng.once_in(5) {
             return 0;
         }
-        let focused = matches!(self.theme, Theme::Naming | Theme::Filling);
+        let focused = matches!(self.theme, Theme::Naming | Theme::Filling | Theme::Leaving);
         if focused && !self.prng.once_in(10) {
             return self.focus;
         }
@@ -317,7 +351,19 @@ impl Generator {
         if names.is_empty() || self.prng.once_in(12) {
             return 1 + self.prng.below(48) as u32;
         }
-        self.prng.pick(&names)
+        match self.named_groups().as_slice() {
+            named if form == Form::RemoveNodes && !named.is_empty() && !self.prng.once_in(3) => {
+                self.prng.pick(named)
+            }
+            _ => self.prng.pick(&names),
+        }
+    }
+
+    /// The s_groups that have a name.
+    fn named_groups(&self) -> Vec<u32> {
+        let mut groups = self.group_names();
+        groups.retain(|s| !self.names_in(*s).is_empty());
+        groups
     }
 
     /// A name that is mostly not in use.
@@ -397,11 +443,17 @@ impl Generator {
             0 => self.prng.pick(&[0, 1, PIDS_PER_HOST - 1]),
             _ => self.prng.below(5_000) as u32,
         };
-        self.host() * PIDS_PER_HOST + inside
+        self.host(s) * PIDS_PER_HOST + inside
     }
 
-    /// A node of the roster; where links are the theme, mostly a free normal one.
-    fn host(&mut self) -> u32 {
+    /// A node of the roster; where links are the theme, mostly a free normal one,
+    /// where hosts are to leave, mostly a member.
+    fn host(&mut self, s: u32) -> u32 {
+        let members = self.members(s);
+        let leaving = matches!(self.theme, Theme::Filling | Theme::Leaving);
+        if leaving && !members.is_empty() && !self.prng.once_in(3) {
+            return self.prng.pick(&members);
+        }
         let free = self.free_groups();
         if self.linking() && !free.is_empty() && !self.prng.once_in(3) {
             let nodes: Vec<u32> = self.prng.pick(&free).into_iter().collect();
@@ -415,10 +467,15 @@ impl Generator {
         groups.into_iter().flatten().collect()
     }
 
-    /// A set for the forms that take one; the caller is mostly in a new group.
+    /// A set for the forms that take one; the caller is mostly in a new group, and
+    /// hosts of names are mostly removed.
     fn set_for(&mut self, form: Form, s: u32, caller: u32) -> u64 {
         let roster = u64::MAX >> (64 - self.roster_size());
-        let mut set = self.subset(s) & roster;
+        let hosts = match form {
+            Form::RemoveNodes if !self.prng.once_in(3) => self.some_hosts(s),
+            _ => None,
+        };
+        let mut set = hosts.unwrap_or_else(|| self.subset(s) & roster);
         if form == Form::NewSGroup && caller < 64 && !self.prng.once_in(12) {
             set |= 1 << caller;
         }
@@ -426,6 +483,17 @@ impl Generator {
             set |= 1 << self.prng.below(64);
         }
         set
+    }
+
+    /// The hosts of one to three names of the s_group, if it has any.
+    fn some_hosts(&mut self, s: u32) -> Option<u64> {
+        let names = self.names_in(s);
+        let hosts: Vec<u32> = names.iter().map(|(_, pid)| host_of(*pid)).collect();
+        if hosts.is_empty() {
+            return None;
+        }
+        let picks = 1 + self.prng.below(3);
+        Some((0..picks).fold(0, |set, _| set | 1 << self.prng.pick(&hosts)))
     }
 
     fn subset(&mut self, s: u32) -> u64 {

@@ -9,6 +9,7 @@
 //! - `command`: the fifteen commands, their arguments and possible reasons.
 //! - `state`: nodes, s_groups and free groups, and when they are well formed.
 //! - `rules`: the opening and the commands, as steps on the state.
+//! - `removal`: what a removal does to names, in kinds.
 //! - `table`: the 1,220 words of a state, and the state of such words.
 //! - `sound`: soundness, clause by clause, over the words.
 //! - `script`: a script's bytes in, the printed bytes out.
@@ -31,6 +32,7 @@ pub mod launch_list;
 pub mod malformed;
 pub mod mutate;
 pub mod prng;
+pub mod removal;
 pub mod rules;
 pub mod script;
 pub mod shrink;

@@ -2,8 +2,8 @@
 //! is found by collecting every reason that applies and taking the least.
 //!
 //! The few rules that can be misread are methods of `Rules`. Their given bodies
-//! are document 01's; a test may replace one to show that the wrong reading is
-//! told apart.
+//! are those of documents 01 and 02; a test may replace one to show that the
+//! wrong reading is told apart.
 
 use crate::answer::{Answer, Reason, Value};
 use crate::command::{Command, Form};
@@ -54,9 +54,19 @@ pub trait Rules {
         parts.push(lot.clone());
         unite(state, &parts);
     }
+
+    /// Drops the names that leave s with its members in the set: those whose pid
+    /// is hosted on one of them. The members are still there.
+    fn drop_names(&self, state: &mut State, s: u32, set: &NodeSet) {
+        let group = state.s_groups.get_mut(&s).expect("reason 8 is ruled out");
+        let leaving = &group.members & set;
+        group
+            .names
+            .retain(|_, pid| !leaving.contains(&host_of(*pid)));
+    }
 }
 
-/// The rules as document 01 has them.
+/// The rules as documents 01 and 02 have them.
 pub struct Law;
 
 impl Rules for Law {}
@@ -323,6 +333,7 @@ fn add_nodes(rules: &dyn Rules, state: &mut State, caller: u32, s: u32, set: &No
 }
 
 fn remove_nodes(rules: &dyn Rules, state: &mut State, s: u32, set: &NodeSet) -> Value {
+    rules.drop_names(state, s, set);
     let group = state.s_groups.get_mut(&s).expect("reason 8 is ruled out");
     let leaving = &group.members & set;
     group.members = &group.members - set;

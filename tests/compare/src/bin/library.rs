@@ -1,11 +1,13 @@
 //! Comparison of the library with the model on random calls: `library SEED WALKS`, or `library again FILE..` for kept cases. Walk k has the seed
-//! SEED + k. Prints what was covered; a case that differs is made smaller and kept in tests/compare/kept/. The status is 0 where nothing differs and
-//! every reason that a command can have was seen.
+//! SEED + k. Prints what was covered; a case that differs is made smaller and kept in tests/compare/kept/. The status is 0 where nothing differs, every
+//! reason that a command can have was seen, and everything that a removal can do to names.
 
 use compare::case::{difference, ran, Case};
 use compare::random::{Kind, Walk, STEPS};
 use compare::{kept, smaller};
-use model::command::{Form, Request};
+use model::command::{Command, Form, Request};
+use model::removal::{effects, Effect};
+use model::table::state_of;
 use std::collections::BTreeMap;
 use std::fs;
 use std::process::ExitCode;
@@ -53,6 +55,9 @@ struct Seen {
     kinds: BTreeMap<Kind, usize>,
     /// How often a form, or opening, gave a reason.
     reasons: BTreeMap<(Option<Form>, u32), usize>,
+    /// How many removals were granted, and how often one did this to names.
+    removals: usize,
+    effects: BTreeMap<Effect, usize>,
 }
 
 impl Seen {
@@ -62,11 +67,41 @@ impl Seen {
             Request::Open { .. } => None,
             Request::Call { command, .. } => Some(command.form()),
         };
-        *self.reasons.entry((form, ran(case).returned)).or_default() += 1;
+        let reason = ran(case).returned;
+        *self.reasons.entry((form, reason)).or_default() += 1;
+        if reason == 0 {
+            self.take_removal(case);
+        }
+    }
+
+    /// Notes what a granted removal does to names.
+    fn take_removal(&mut self, case: &Case) {
+        let Request::Call { caller, command } = &case.request else {
+            return;
+        };
+        let Command::RemoveNodes { s, set } = command else {
+            return;
+        };
+        let Ok(before) = state_of(&case.table) else {
+            return;
+        };
+        self.removals += 1;
+        for effect in effects(&before, *caller, *s, set) {
+            *self.effects.entry(effect).or_default() += 1;
+        }
+    }
+
+    /// What never came.
+    fn missing(&self) -> Vec<String> {
+        let effects = Effect::ALL.into_iter();
+        let never = effects.filter(|effect| !self.effects.contains_key(effect));
+        let mut missing = self.missing_reasons();
+        missing.extend(never.map(|effect| format!("RemoveNodes {effect:?}")));
+        missing
     }
 
     /// Reasons that a command can have and that never came.
-    fn missing(&self) -> Vec<String> {
+    fn missing_reasons(&self) -> Vec<String> {
         let opening = [0, 1, 2, 7].map(|reason| (None, reason));
         let commands = Form::ALL.iter().flat_map(|form| {
             let own = form.reasons().iter().map(|reason| reason.number());
@@ -100,14 +135,21 @@ fn walked(seed: u64, walks: u64) -> ExitCode {
     }
     let cases: usize = seen.kinds.values().sum();
     println!("library: {cases} cases {:?}, 0 differences", seen.kinds);
+    covered(&seen)
+}
+
+/// Prints what was seen and what never came.
+fn covered(seen: &Seen) -> ExitCode {
     let missing = seen.missing();
     println!(
-        "library: {} pairs of command and reason seen, {} missing",
+        "library: {} pairs of command and reason seen; {} removals {:?}; {} missing",
         seen.reasons.len(),
+        seen.removals,
+        seen.effects,
         missing.len()
     );
-    for pair in &missing {
-        println!("library: never seen: {pair}");
+    for what in &missing {
+        println!("library: never seen: {what}");
     }
     ExitCode::from(u8::from(!missing.is_empty()))
 }

@@ -3,15 +3,16 @@
 
 use crate::helpers::{each_step, rounds, seed, sound_table, Seen};
 use model::answer::Reason;
-use model::command::{Form, Request};
+use model::command::{Command, Form, Request};
 use model::generate::{script, Generator};
+use model::removal::{effects, Effect};
 use model::rules::{touching_groups, unite, Law, Rules};
 use model::script::{parse, run_with, LONGEST_SCRIPT};
 use model::shrink::shrunk;
 use model::sound::failing_clauses;
 use model::state::{NodeSet, State};
 use std::cell::{Cell, RefCell};
-use std::collections::BTreeSet;
+use std::collections::{BTreeMap, BTreeSet};
 
 #[test]
 fn the_same_seed_gives_the_same_script() {
@@ -157,6 +158,56 @@ fn free_groups_merge_split_and_join_in_many_ways() {
     println!("{counted:?}");
     for (what, times) in counted {
         assert!(times >= 20, "{what}: {times}");
+    }
+}
+
+/// What removals did to names while scripts ran.
+#[derive(Default)]
+struct Removals {
+    granted: u32,
+    effects: BTreeMap<Effect, u32>,
+}
+
+impl Removals {
+    fn note(&mut self, seen: &Seen) {
+        let (Some(before), Request::Call { caller, command }) = (&seen.before, &seen.request)
+        else {
+            return;
+        };
+        let (Command::RemoveNodes { s, set }, Reason::MainCase) = (command, seen.answer.reason)
+        else {
+            return;
+        };
+        self.granted += 1;
+        let done = effects(before, *caller, *s, set);
+        let names = |state: &State| state.s_groups.get(s).map(|group| group.names.len());
+        let left = seen.after.as_ref().and_then(names);
+        assert_eq!(
+            done.contains(&Effect::Drops),
+            left.is_some() && left < names(before)
+        );
+        for effect in done {
+            *self.effects.entry(effect).or_default() += 1;
+        }
+    }
+}
+
+#[test]
+fn removals_drop_and_keep_names_in_every_way() {
+    let first = seed();
+    let removals = RefCell::new(Removals::default());
+    for seed in first..first + rounds(300) {
+        let note = |seen: &Seen| {
+            removals.borrow_mut().note(seen);
+            Ok(())
+        };
+        each_step(&script(seed, 200), &note).expect("bad lines change nothing");
+    }
+    let removals = removals.into_inner();
+    println!("{} granted: {:?}", removals.granted, removals.effects);
+    for effect in Effect::ALL {
+        let times = removals.effects.get(&effect).copied().unwrap_or(0);
+        assert!(times >= 5, "{effect:?}: {times}");
     }
 }
 

@@ -7,6 +7,7 @@ mod generators;
 mod helpers;
 mod launch;
 mod launches;
+mod leaving;
 mod lines;
 mod listings;
 mod places;

@@ -8,14 +8,14 @@ use model::compare::{outcome, Outcome};
 use model::rules::{call, Law, Rules};
 use model::script::{parse, run, ROOM};
 use model::sound::failing_clauses;
-use model::state::{set_of, NodeSet, SGroup, State};
+use model::state::{host_of, set_of, NodeSet, SGroup, State};
 use model::table::{state_of, words_of, BODIES, BODY, CONTENTS, WORDS};
 use std::collections::{BTreeMap, BTreeSet};
 
 type Check = fn(&[u8]) -> Result<(), String>;
 
 /// Every check on a whole script, with the name under which failures are kept.
-const CHECKS: [(&str, Check); 7] = [
+const CHECKS: [(&str, Check); 8] = [
     ("soundness", keeps_soundness),
     ("refusals", refusals_write_nothing),
     ("inverse", layout_and_reading_are_inverse),
@@ -23,6 +23,7 @@ const CHECKS: [(&str, Check); 7] = [
     ("connections", connections_stay),
     ("asking", asking_writes_nothing),
     ("naming", naming_stays_in_its_words),
+    ("leaving", names_leave_with_their_host),
 ];
 
 fn on_scripts(name: &str) {
@@ -222,6 +223,45 @@ fn naming_stays_in_its_words(script: &[u8]) -> Result<(), String> {
 #[test]
 fn naming_changes_only_its_own_words() {
     on_scripts("naming");
+}
+
+/// A removal drops the names of those whom its own s_group loses; every other
+/// s_group stays as it is.
+fn names_leave_with_their_host(script: &[u8]) -> Result<(), String> {
+    each_step(script, &|seen: &Seen| {
+        let (Some(before), Some(after)) = (&seen.before, &seen.after) else {
+            return Ok(());
+        };
+        let Request::Call { command, .. } = &seen.request else {
+            return Ok(());
+        };
+        let Command::RemoveNodes { s, .. } = command else {
+            return Ok(());
+        };
+        let mut expected = before.s_groups.clone();
+        match (expected.get_mut(s), after.s_groups.get(s)) {
+            (Some(old), Some(new)) => {
+                old.names = names_left(old, new);
+                old.members = new.members.clone();
+            }
+            _ => drop(expected.remove(s)),
+        }
+        same(&after.s_groups, &expected, "other s_groups are left")
+    })
+}
+
+/// The names of an s_group whose hosts are no members that it lost.
+fn names_left(old: &SGroup, new: &SGroup) -> BTreeMap<u32, u32> {
+    let lost = &old.members - &new.members;
+    let names = old.names.iter().map(|(n, p)| (*n, *p));
+    names
+        .filter(|(_, p)| !lost.contains(&host_of(*p)))
+        .collect()
+}
+
+#[test]
+fn names_leave_with_their_host_alone() {
+    on_scripts("leaving");
 }
 
 #[test]

@@ -1,14 +1,15 @@
-//! The five readings that look right, each as other rules for the model, and a
-//! script that tells each of them apart from 01.
+//! The five readings of 01 that look right and five of the names that leave with
+//! their node, each as other rules for the model, and a script that tells each
+//! of them apart.
 
 use crate::helpers::{printed_under, request};
 use model::answer::Reason;
 use model::rules::{touching_groups, unite, Law, Rules};
 use model::script::Session;
-use model::state::{NodeSet, State};
+use model::state::{host_of, NodeSet, SGroup, State};
 use std::collections::BTreeSet;
 
-/// What a script prints under 01 and under a wrong reading.
+/// What a script prints under the documents and under a wrong reading.
 fn told_apart(wrong: &dyn Rules, script: &[(&str, &str, &str)]) {
     let lines: Vec<&str> = script.iter().map(|(line, _, _)| *line).collect();
     let by_law: Vec<&str> = script.iter().map(|(_, law, _)| *law).collect();
@@ -188,6 +189,150 @@ fn testing_the_name_first_is_told_apart() {
             ("2 register_name 5 70 2", "false 9", "false 10"),
             ("2 unregister_name 5 71", "false 9", "true 12"),
             ("0 whereis_name 2 5 71", "undefined 9", "undefined 12"),
+        ],
+    );
+}
+
+/// Drops the names of these hosts.
+fn drop_hosted(group: &mut SGroup, hosts: &NodeSet) {
+    group.names.retain(|_, pid| !hosts.contains(&host_of(*pid)));
+}
+
+/// The s_group of a removal.
+fn named(state: &mut State, s: u32) -> &mut SGroup {
+    state.s_groups.get_mut(&s).expect("the removal is granted")
+}
+
+/// Leaves the names of nodes that leave.
+struct NamesStay;
+
+impl Rules for NamesStay {
+    fn drop_names(&self, _: &mut State, _: u32, _: &NodeSet) {}
+}
+
+#[test]
+fn names_that_stay_are_told_apart() {
+    told_apart(
+        &NamesStay,
+        &[
+            ("open 4 0", "ok 0", "ok 0"),
+            ("0 new_s_group 5 3", "group 5 3 0", "group 5 3 0"),
+            ("0 register_name 5 70 67108865", "true 0", "true 0"),
+            ("0 remove_nodes 5 2", "true 0", "true 0"),
+            ("0 whereis_name 5 70", "undefined 12", "pid 67108865 0"),
+            ("0 register_name 5 70 67108866", "true 0", "false 10"),
+        ],
+    );
+}
+
+/// Drops the names of every node of the set, members or not.
+struct NamesOfTheSet;
+
+impl Rules for NamesOfTheSet {
+    fn drop_names(&self, state: &mut State, s: u32, set: &NodeSet) {
+        drop_hosted(named(state, s), set);
+    }
+}
+
+#[test]
+fn dropping_names_of_the_whole_set_is_told_apart() {
+    told_apart(
+        &NamesOfTheSet,
+        &[
+            ("open 4 0", "ok 0", "ok 0"),
+            ("0 new_s_group 5 3", "group 5 3 0", "group 5 3 0"),
+            ("0 register_name 5 70 67108865", "true 0", "true 0"),
+            ("0 register_name 5 71 134217729", "true 0", "true 0"),
+            ("0 remove_nodes 5 6", "true 0", "true 0"),
+            ("0 whereis_name 5 70", "undefined 12", "undefined 12"),
+            ("0 whereis_name 5 71", "pid 134217729 0", "undefined 12"),
+        ],
+    );
+}
+
+/// Drops the names of members that leave in every s_group.
+struct NamesEverywhere;
+
+impl Rules for NamesEverywhere {
+    fn drop_names(&self, state: &mut State, s: u32, set: &NodeSet) {
+        let leaving = &named(state, s).members & set;
+        for group in state.s_groups.values_mut() {
+            drop_hosted(group, &leaving);
+        }
+    }
+}
+
+#[test]
+fn dropping_names_in_every_s_group_is_told_apart() {
+    told_apart(
+        &NamesEverywhere,
+        &[
+            ("open 4 0", "ok 0", "ok 0"),
+            ("0 new_s_group 5 3", "group 5 3 0", "group 5 3 0"),
+            ("0 new_s_group 6 3", "group 6 3 0", "group 6 3 0"),
+            ("0 register_name 5 70 67108865", "true 0", "true 0"),
+            ("0 register_name 6 70 67108865", "true 0", "true 0"),
+            ("0 remove_nodes 5 2", "true 0", "true 0"),
+            ("0 whereis_name 5 70", "undefined 12", "undefined 12"),
+            ("0 whereis_name 6 70", "pid 67108865 0", "undefined 12"),
+        ],
+    );
+}
+
+/// Keeps the names of the members that stay and no others.
+struct NamesOfMembersOnly;
+
+impl Rules for NamesOfMembersOnly {
+    fn drop_names(&self, state: &mut State, s: u32, set: &NodeSet) {
+        let group = named(state, s);
+        let staying = &group.members - set;
+        group
+            .names
+            .retain(|_, pid| staying.contains(&host_of(*pid)));
+    }
+}
+
+#[test]
+fn dropping_names_hosted_outside_is_told_apart() {
+    told_apart(
+        &NamesOfMembersOnly,
+        &[
+            ("open 4 0", "ok 0", "ok 0"),
+            ("0 new_s_group 5 3", "group 5 3 0", "group 5 3 0"),
+            ("0 register_name 5 70 67108865", "true 0", "true 0"),
+            ("0 register_name 5 71 134217729", "true 0", "true 0"),
+            ("0 remove_nodes 5 2", "true 0", "true 0"),
+            ("0 whereis_name 5 70", "undefined 12", "undefined 12"),
+            ("0 whereis_name 5 71", "pid 134217729 0", "undefined 12"),
+        ],
+    );
+}
+
+/// Drops the names of members that are in no other s_group.
+struct NamesOfTheFreed;
+
+impl Rules for NamesOfTheFreed {
+    fn drop_names(&self, state: &mut State, s: u32, set: &NodeSet) {
+        let leaving = &named(state, s).members & set;
+        let freed = |node: &u32| state.group_names(*node).len() == 1;
+        let freed: NodeSet = leaving.into_iter().filter(freed).collect();
+        drop_hosted(named(state, s), &freed);
+    }
+}
+
+#[test]
+fn dropping_names_of_freed_nodes_only_is_told_apart() {
+    told_apart(
+        &NamesOfTheFreed,
+        &[
+            ("open 4 0", "ok 0", "ok 0"),
+            ("0 new_s_group 5 7", "group 5 7 0", "group 5 7 0"),
+            ("1 new_s_group 6 2", "group 6 2 0", "group 6 2 0"),
+            ("0 register_name 5 70 67108865", "true 0", "true 0"),
+            ("0 register_name 5 71 134217729", "true 0", "true 0"),
+            ("0 remove_nodes 5 6", "true 0", "true 0"),
+            ("0 whereis_name 5 70", "undefined 12", "pid 67108865 0"),
+            ("0 whereis_name 5 71", "undefined 12", "undefined 12"),
         ],
     );
 }

@@ -281,15 +281,16 @@ hosted-dropped-words cap size hosts es s =
     rw (length-words cap es, le-leb (length es) cap (s .room), entries-words cap size es s)
     (shorter cap (drop-hosted hosts es) es (length-drop-hosted hosts es) (s .room))
 
--- no more are left than there were words
-pub hosted-few : (count hosts kept : ℕ) (ws : List ℕ) → counted.Of kept ≡ hosted-answer count hosts ws → kept ≤ length ws
+-- no more are left than there were, and no more were there than words
+pub hosted-few : (count hosts kept : ℕ) (ws : List ℕ) → counted.Of kept ≡ hosted-answer count hosts ws → (kept ≤ count) × (count ≤ length ws)
 unfolding hosted-answer
 hosted-few count hosts kept ws e =
     ⊎-elim
     (λ (q : leb count (length ws) ≡ true).
     let same : counted.Of kept ≡ counted.Of (length (drop-hosted hosts (entries count ws))) = rw q at e in
     let many : kept ≡ length (drop-hosted hosts (entries count ws)) = cc in
-    omega (arith, length-drop-hosted hosts (entries count ws), length-entries count ws (leb-true count (length ws) q), leb-true count (length ws) q))
+    let room : count ≤ length ws = leb-true count (length ws) q in
+    (omega (arith, length-drop-hosted hosts (entries count ws), length-entries count ws room), room))
     (λ (q : leb count (length ws) ≡ false).
     let same : counted.Of kept ≡ counted.Unfit = rw q at e in
     let z : _≡_ {A = ℕ} 0 1 = cc in absurd (omega arith))

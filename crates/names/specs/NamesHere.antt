@@ -1,9 +1,9 @@
 -- What the namespace functions find in the words of an s_group of a table, and the table after they changed them. Assumes nothing.
-use mathlib.Core.Path.{_≡_, refl, sym, ap, ap₂, _∙_, subst}
+use mathlib.Core.Path.{_≡_, refl, sym, ap, _∙_, subst}
 use mathlib.Core.Bool.{true, false, false≢true}
 use mathlib.Core.Option.{Option, none, some}
 use mathlib.Core.List.{List, _∷_, _++_}
-use Prim.Native.Nat.{ℕ, zero, suc, _+_, _-_, _*_, _%_, _<_}
+use Prim.Native.Nat.{ℕ, zero, suc, _+_, _-_, _*_, _<_}
 use native.Mathlib.Omega.{arith}
 use lib.ListN.{length, getD, take, drop, set, length-append}
 use lib.Seq.{set-at, set-getD}
@@ -11,6 +11,7 @@ use borrow.Author.Tests.{le-leb, le-ltb, eq-eqb, ne-eqb}
 use Rattle.entries.specs.Entries.{Entry, insert, remove, renew, lookup, rank, holds-pid, drop-hosted, words}
 use Rattle.entries.specs.Raw.{place, found, found-at, answer-at, pid-answer, yes-no, added, dropped, replaced, change-of, hosted-answer, hosted-dropped}
 use Rattle.entries.specs.EntryLaws.{length-insert, length-remove, length-renew, remove-absent}
+use Rattle.entries.specs.NamespaceKept.{length-drop-hosted}
 use Rattle.entries.specs.NamespaceMeaning.{found-words, pid-answer-words, added-words, dropped-words, replaced-words, hosted-answer-words, hosted-dropped-words}
 use Rattle.entries.specs.declared.Change.{Change}
 use Rattle.entries.specs.declared.Change.the-variants as change
@@ -20,7 +21,7 @@ use Rattle.semantics.specs.State.{Group, State, with-groups}
 use Rattle.semantics.specs.Ranges.{held}
 use Rattle.semantics.specs.Steps.{hold, apply, looked, nothing-found, ask}
 use Rattle.semantics.specs.Regular.{Regular-group, Regular}
-use Rattle.semantics.specs.Places.{no-group, group-at, contents-name, every-iff}
+use Rattle.semantics.specs.Places.{no-group, every-iff}
 use Rattle.semantics.specs.NamesKept.{not-held}
 use Rattle.semantics.specs.WordsOfState.{Laid}
 use Rattle.answers.specs.declared.Reason.{Reason}
@@ -100,12 +101,11 @@ module _ {st : State} {t : List ℕ} (l : Laid names-per-group st t) (k : ℕ) (
       -- without the names of some hosts, the number of those that are left being stored
       pub hosted-here : (hosts kept : ℕ) → counts.Of kept ≡ hosted-answer (counted k t) hosts (take (e - b) (drop b t))
           → r ≡ hosted-dropped (counted k t) hosts (take (e - b) (drop b t))
-          → Laid names-per-group (with-names k (drop-hosted hosts (names-at k st)) st) (set lent (contents-at + k) (getD t (contents-at + k) 0 % group-names + group-names * kept))
+          → Laid names-per-group (with-names k (drop-hosted hosts (names-at k st)) st) (set lent (contents-at + k) (getD t (contents-at + k) 0 - group-names * (counted k t - kept)))
       hosted-here hosts kept told left =
           renamed-counted l k (w .below) b e eb ee (drop-hosted hosts (names-at k st)) (hosted-dropped (counted k t) hosts)
           (rw count-is (hosted-dropped-words names-per-group (st .size) hosts (names-at k st) (w .regular .names-sound))) r long left _
-          (ap₂ (λ (x y : ℕ). x + group-names * y)
-          (ap (λ (x : ℕ). x % group-names) (contents-here l k (w .below)) ∙ contents-name (group-at (st .groups) k) (w .regular .small)) many)
+          (omega (arith, contents-here l k (w .below), count-is, many, length-drop-hosted hosts (names-at k st)))
         where
           many : kept ≡ length (drop-hosted hosts (names-at k st))
           many = let same : counts.Of kept ≡ counts.Of (length (drop-hosted hosts (names-at k st))) = told ∙ left-here hosts in cc

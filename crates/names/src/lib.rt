@@ -126,7 +126,7 @@ pub fn drop_hosted(t: &mut [u64], at: usize, set: u64)
     let end = start + NAMES_PER_GROUP;
     match namespace::drop_hosted(&mut t[start..end], count, set) {
         Counted::Of(kept) => {
-            t[CONTENTS_AT + at] = contents % GROUP_NAMES + GROUP_NAMES * kept as u64;
+            t[CONTENTS_AT + at] = contents - GROUP_NAMES * (count - kept) as u64;
         }
         Counted::Unfit => {}
     }

@@ -115,7 +115,7 @@ inter-requires : tie.Need-inter-requires
 inter-requires c κs = search needs
 
 drop-hosted-requires : tie.Need-drop-hosted-requires
-drop-hosted-requires c κs = (search needs, few (c .before .before .before .before .before))
+drop-hosted-requires c κs = (search needs, omega (arith, few (c .before .before .before .before .before)))
 
 set-members-requires : tie.Need-set-members-requires
 set-members-requires c κs = (search needs, few (c .before .before .before .before .before .before .before .before .before))

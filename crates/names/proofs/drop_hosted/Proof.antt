@@ -15,16 +15,18 @@ use Rattle.names.specs.NamesHere.{left-here, hosted-here}
 use Rattle.names.proofs.drop_hosted.Statement.{statement}
 use Rattle.names.proofs.drop_hosted.Tie as tie
 
--- no more names are left than there is room for
-few : (c : tie.After-known-told) → c .before .kept .given .0 .0 ≤ names-per-group
+-- no more names are left than there were, and these were no more than there is room for
+few : (c : tie.After-known-told) → let a = c .before .before .before .before .before .before .before .before .before .args in
+    (c .before .kept .given .0 .0 ≤ counted (a .at) (a .t .now)) × (counted (a .at) (a .t .now) ≤ names-per-group)
 few c =
     let d = c .before .before .before .before .before in
     let a = d .before .before .before .before .args in
+    let p = d .before .before .before .before .pre in
     let b : ℕ = bodies-at + names-per-group * a .at in
     let e : ℕ = b + names-per-group in
-    let p = d .before .before .before .before .pre in
     let long : length (take (e - b) (drop b (a .t .now))) ≡ e - b = length-take-le (e - b) (drop b (a .t .now)) (omega (arith, length-drop b (a .t .now), p .0, p .1)) in
-    omega (arith, long, hosted-few (counted (a .at) (a .t .now)) (a .set) (c .before .kept .given .0 .0) (take (e - b) (drop b (a .t .now))) (sym (c .before .kept .given .1) ∙ d .drop-hosted .ensures .0))
+    let h = hosted-few (counted (a .at) (a .t .now)) (a .set) (c .before .kept .given .0 .0) (take (e - b) (drop b (a .t .now))) (sym (c .before .kept .given .1) ∙ d .drop-hosted .ensures .0) in
+    (h .0, omega (arith, long, h .1))
 
 -- a sound table counts no more names than its words hold
 fits : {kept : ℕ} {x : Counted} → x ≡ Unfit → x ≡ Of kept → ⊥
@@ -66,14 +68,17 @@ drop-hosted-requires c κs = search needs
 enum-known-kept : tie.Need-enum-known-kept
 enum-known-kept c = search needs
 
+sub-t : tie.Need-sub-t
+sub-t c = omega (arith, few c .0)
+
 mul-t : tie.Need-mul-t
-mul-t c = omega (arith, few c)
+mul-t c = omega (arith, few c .1)
+
+sub-t-2 : tie.Need-sub-t-2
+sub-t-2 c = omega (arith, few c .1)
 
 add-t : tie.Need-add-t
-add-t c = omega (arith, few c)
-
-add-t-2 : tie.Need-add-t-2
-add-t-2 c = search needs
+add-t c = search needs
 
 mul-t-2 : tie.Need-mul-t-2
 mul-t-2 c = search needs
@@ -119,9 +124,10 @@ drop-hosted-spec =
     part-drop-hosted-end
     drop-hosted-requires
     enum-known-kept
+    sub-t
     mul-t
+    sub-t-2
     add-t
-    add-t-2
     mul-t-2
     slice-write-t
     enum-told

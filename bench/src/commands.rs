@@ -11,7 +11,7 @@ pub const CALLS: usize = 4096;
 /// Calls in a turn, each on a table of its own; the tables stay in the first cache.
 const TURN: usize = 3;
 /// Calls where the test dominates.
-const TESTED_CALLS: usize = 192;
+pub const TESTED_CALLS: usize = 192;
 /// Rounds of calls, by whether the test dominates, and of tests alone.
 const ROUNDS: usize = 150;
 const TESTED_ROUNDS: usize = 1000;
@@ -28,10 +28,11 @@ const PIDS_PER_HOST: u64 = 1 << 26;
 
 /// The proved side and the plain one.
 pub type Sides = [&'static Api; 2];
-const TESTED: Sides = [&PROVED, &PLAIN];
+pub const TESTED: Sides = [&PROVED, &PLAIN];
 pub const UNTESTED: Sides = [&PROVED_UNTESTED, &PLAIN_UNTESTED];
 
-fn pick(prng: &mut Prng, set: u64) -> u32 {
+/// One node of the set, which is not empty.
+pub fn pick(prng: &mut Prng, set: u64) -> u32 {
     let mut left = set;
     for _ in 0..prng.below(u64::from(set.count_ones())) {
         left &= left - 1;
@@ -74,7 +75,7 @@ pub fn main_cases(prng: &mut Prng, which: Which, words: &[u64], calls: usize) ->
 }
 
 /// Nanoseconds a call of two sides. Every call finds the table as it was; the time of an empty turn is subtracted.
-fn timed(sides: Sides, which: Which, words: &[u64], asked: &[Asked]) -> (f64, f64) {
+pub fn timed(sides: Sides, which: Which, words: &[u64], asked: &[Asked]) -> (f64, f64) {
     let lent = std::cell::RefCell::new(vec![Lent::new(words); TURN]);
     let turns = asked.len() / TURN;
     let turn = |k: usize| &asked[k * TURN..][..TURN];

@@ -1,5 +1,5 @@
 //! Times the proved library against plain Rust written for speed, in one run, and prints the ratios: `bench SEED [PROGRAM WORD..]`. First both are held to
-//! the same answers and words on random calls, namespaces and launches, and to the same lines on the scripts; `bench agree SEED [PROGRAM WORD..]` does that
+//! the same answers and words on random calls, removals, namespaces and launches, and to the same lines on the scripts; `bench agree SEED [PROGRAM WORD..]` does that
 //! alone, and holds the stack of each call to its bar. `bench launch-file SEED` prints the launch file that is timed first.
 //! Needs target/native/libsgroup_c.a; `bench/run` builds it, and gives the words that run the script program.
 
@@ -8,6 +8,7 @@ mod api;
 mod call;
 mod commands;
 mod launches;
+mod leaving;
 mod namespaces;
 mod plain;
 mod race;
@@ -54,6 +55,13 @@ fn agree_on_namespaces(seed: u64) {
     println!("{spaces} random namespaces: the same answers and words");
 }
 
+fn agree_on_removals(seed: u64) {
+    let leaving::Agreed { none, some, all } = leaving::agree(seed);
+    let removals = none + some + all;
+    println!("{removals} random removals: the same answers and words");
+    println!("of these {none} drop no name, {some} some, {all} all");
+}
+
 fn agree_on_launches(seed: u64) {
     let launches = launches::agree(seed);
     println!("{launches} random launches: the same answers, places and words");
@@ -75,6 +83,7 @@ fn print_launch_file(seed: u64) {
 /// Holds both sides to the same, and the stack to its bar; the scripts where the program is given.
 fn agree_only(seed: u64, program: &[String]) {
     agree_on_calls(seed);
+    agree_on_removals(seed);
     agree_on_namespaces(seed);
     agree_on_launches(seed);
     hold_stack(seed);
@@ -88,6 +97,9 @@ fn agree_only(seed: u64, program: &[String]) {
 fn times(seed: u64, program: &[String]) {
     agree_on_calls(seed);
     commands::times(seed);
+    println!();
+    agree_on_removals(seed);
+    leaving::times(seed);
     commands::growth(seed);
     stack::depths(seed);
     println!();

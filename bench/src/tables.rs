@@ -61,6 +61,27 @@ pub fn full_with(prng: &mut Prng, number: impl Fn(u64, u64) -> u64) -> Vec<u64> 
     words
 }
 
+/// A sound table of this size with other pids: their hosts are given for the members of an s_group and the place of a name; each host gives its pids in
+/// order.
+pub fn hosted(
+    prng: &mut Prng,
+    size: Size,
+    host: impl Fn(&mut Prng, u64, usize) -> u32,
+) -> Vec<u64> {
+    let mut words = table(prng, size);
+    let mut serial = [1u64; 64];
+    for group in 0..size.groups {
+        let members = words[36 + group];
+        for k in 0..size.names {
+            let home = host(prng, members, k);
+            serial[home as usize] += 1 + prng.below(3);
+            let word = &mut words[196 + 32 * group + k];
+            *word = (*word >> 32) << 32 | (u64::from(home) * PIDS_PER_HOST + serial[home as usize]);
+        }
+    }
+    words
+}
+
 /// A sound table of this size, its groups drawn at random. Free normal nodes stand alone.
 pub fn table(prng: &mut Prng, size: Size) -> Vec<u64> {
     let mut words = vec![0u64; 1220];

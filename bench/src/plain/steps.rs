@@ -169,6 +169,29 @@ fn drop_group(t: &mut Table, at: usize) {
     t[2] -= 1;
 }
 
+/// The names go whose pid lives on a node that left. The hosts of all are gathered first: mostly none of them left, sometimes all. Else each name is moved
+/// without a branch, since which ones go cannot be foretold.
+fn drop_hosted(t: &mut Table, i: usize, gone: u64) {
+    let held = count(t, i);
+    let body = body_mut(t, i);
+    let hosts = body[..held]
+        .iter()
+        .fold(0u64, |hosts, word| hosts | 1 << (word >> 26 & 63));
+    if hosts & gone == 0 {
+        return;
+    }
+    let mut kept = 0;
+    if hosts & !gone != 0 {
+        for at in 0..held {
+            let word = body[at];
+            body[kept & (BODY - 1)] = word;
+            kept += usize::from(!has(gone, word as u32 >> 26));
+        }
+    }
+    body[kept..held].fill(0);
+    t[CONTENTS + i] -= 65_536 * (held - kept) as u64;
+}
+
 // ---- the commands
 
 pub fn register_name(t: &mut Table, caller: u32, s: u32, n: u32, p: u32) -> Answer {
@@ -405,6 +428,7 @@ pub fn remove_nodes(t: &mut Table, caller: u32, s: u32, set: u64) -> Answer {
     if members & !set == 0 {
         drop_group(t, i);
     } else {
+        drop_hosted(t, i, members & set);
         t[MEMBERS + i] = members & !set;
     }
     become_free(t, members & set);

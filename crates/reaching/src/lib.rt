@@ -22,6 +22,18 @@ ghost use Rattle.commands.specs.declared.Command.the-variants.{WhereisNameAt, S
 ghost use Rattle.semantics.specs.Test.{sound};
 ghost use Rattle.semantics.specs.Call.{call};
 
+// The node a connects with b, which may be a itself, and then with c. A function of its own, so that a command that connects stays short.
+fn connect_both(t: &mut [u64], a: u32, b: u32, c: u32)
+    requires { ⌜ length (now t) ≡ table-words names-per-group ⌝ }
+    requires { ⌜ a < node-limit ⌝ }
+    requires { ⌜ b < node-limit ⌝ }
+    requires { ⌜ c < node-limit ⌝ }
+    ensures { λ _. ⌜ ((st : State) → Laid names-per-group st (now (t .entry)) → Regular names-per-group st → Laid names-per-group (connect a c (connect a b st)) (now (t .exit))) ⌝ }
+{
+    connect(t, a, b);
+    connect(t, a, c);
+}
+
 // What the node finds under the name in the s_group; the caller connects with the node.
 pub fn whereis_name_at(t: &mut [u64], caller: u32, node: u32, s: u32, n: u32) -> Answer
     requires { ⌜ length (now t) ≡ table-words names-per-group ⌝ }
@@ -54,7 +66,7 @@ pub fn send(t: &mut [u64], caller: u32, p: u32) -> Answer
     let Reason::Done = reason else {
         return refused(reason);
     };
-    connect(t, caller, p / PIDS_PER_HOST);
+    connect_both(t, caller, caller, p / PIDS_PER_HOST);
     done(Value::Pid(p))
 }
 
@@ -91,13 +103,14 @@ pub fn send_at(t: &mut [u64], caller: u32, node: u32, s: u32, n: u32) -> Answer
     let Reason::Done = reason else {
         return refused(reason);
     };
-    let found = look(t, node, s, n);
-    connect(t, caller, node);
-    match found {
+    match look(t, node, s, n) {
         Lookup::Found(pid) => {
-            connect(t, caller, pid / PIDS_PER_HOST);
+            connect_both(t, caller, node, pid / PIDS_PER_HOST);
             done(Value::Pid(pid))
         }
-        Lookup::Missing(why) => said(Value::Undefined, why),
+        Lookup::Missing(why) => {
+            connect(t, caller, node);
+            said(Value::Undefined, why)
+        }
     }
 }

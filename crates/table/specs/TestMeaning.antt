@@ -1,7 +1,7 @@
 -- The test, part by part, says the clauses of the soundness of a table, and the clauses say that every part of the test passes. Assumes nothing.
 use mathlib.Core.Path.{_≡_, sym, ap, _∙_}
 use mathlib.Core.Logic.{_↔_, _≢_, ⊎-elim}
-use mathlib.Core.Bool.{true, not, and-eq-true-iff, true≢false}
+use mathlib.Core.Bool.{true, not, _&&_, and-eq-true-iff, true≢false}
 use mathlib.Core.List.{List}
 use Prim.Native.Nat.{ℕ, zero, suc, _+_, _-_, _*_, _/_, _%_, _≤_, _<_}
 use native.Mathlib.Nat.{eq-or-lt-of-le, le-of-suc-le-suc, not-suc-le-zero, div-add-mod', mod-lt, le-div-iff-mul-le, div-lt-iff-lt-mul, mul-comm, mul-le-mul-left}
@@ -10,6 +10,7 @@ use lib.ListN.{length, getD, take, drop, length-drop}
 use lib.Seq.{getD-take, getD-drop, length-take-le}
 use borrow.Author.Tests.{eqb-true, eq-eqb, ltb-true, lt-ltb, not-true}
 use Rattle.nodes.specs.Sets.{node-limit, has, empty, roster, diff, union-all, word-at}
+use Rattle.nodes.specs.Bools.{by-lt, test-ext}
 use Rattle.nodes.specs.SetLaws.{has-diff, has-roster, below-pow, union-all-in, union-all-out}
 use Rattle.semantics.specs.Sizes.{group-limit, contents-at, members-at, links-at, free-at, bodies-at, table-words}
 use Rattle.semantics.specs.Soundness.{size-of, hidden-of, count-of, name-of, members-of, links-of, free-of, entry-of, In, Free-normal, Sound}
@@ -60,6 +61,20 @@ module _ (t : List ℕ) (a b : ℕ) where
         let u : i < b - a = omega (arith, length-part h) in
         eq-eqb _ _ (part-word i u ∙ z (a + i) (omega arith) (omega arith)),
   )
+
+-- a part of no words is zero
+pub zero-none : (t : List ℕ) (a : ℕ) → a ≤ length t → all-zero (part t a a) ≡ true
+zero-none t a h = zero-iff t a a h .1 (λ k l u. absurd (omega arith))
+
+-- a part is zero where both of its parts are
+pub zero-split : (t : List ℕ) (a b c : ℕ) → a ≤ b → b ≤ c → c ≤ length t → all-zero (part t a c) ≡ all-zero (part t a b) && all-zero (part t b c)
+zero-split t a b c l m h =
+    test-ext _ _
+    (λ e. and-eq-true-iff _ _ .1 (zero-iff t a b (omega arith) .1 (λ k x y. zero-iff t a c h .0 e k x (omega arith)), zero-iff t b c h .1 (λ k x y. zero-iff t a c h .0 e k (omega arith) y)))
+    (λ e.
+    let both = and-eq-true-iff _ _ .0 e in
+    zero-iff t a c h .1 (λ k x y.
+    ⊎-elim (λ (z : k < b). zero-iff t a b (omega arith) .0 (both .0) k x z) (λ (z : b ≤ k). zero-iff t b c h .0 (both .1) k z y) (by-lt k b)))
 
 -- ---- contents and members
 

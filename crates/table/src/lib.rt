@@ -1,11 +1,12 @@
 // Whether a run of words is a sound table.
 ghost use mathlib.Core.Path.{_≡_};
-ghost use Prim.Native.Nat.{_≤_, _<_};
+ghost use Prim.Native.Nat.{_+_, _*_, _≤_, _<_};
 ghost use lib.ListN.{length};
 ghost use Rattle.entries.specs.Entries.{half-word};
 ghost use Rattle.semantics.specs.Sizes.{group-limit, names-per-group, bodies-at, table-words};
 ghost use Rattle.semantics.specs.Test.{sound};
-ghost use Rattle.groups_test.specs.GroupTests.{head-right, unused-zero, loose-in, parts-right};
+ghost use Rattle.free_test.specs.WireTests.{all-zero};
+ghost use Rattle.groups_test.specs.GroupTests.{part, head-right, unused-zero, loose-in, parts-right};
 use free_test::all_zero;
 use free_test::free_sound;
 use layout::BODIES_AT;
@@ -35,8 +36,8 @@ fn head_sound(size: u64, hidden: u64, count: u64, spare: u64) -> bool
     (count <= GROUP_LIMIT as u64) & ((spare == 0) & !nodes::beyond(hidden, size as u32))
 }
 
-// Whether the names of each s_group from g on are zero, a namespace at a time: one loop over all of them, of four words a turn, took half as long again where its
-// code fell into two lines of the code cache.
+// Whether the words of names from the s_group g on are zero, a namespace at a time: a single loop over all of them takes half as long again where its code
+// falls into two lines of the processor's code cache.
 fn bodies_zero(t: &[u64], g: usize, cap: usize) -> bool
     requires { ⌜ (length (now t) ≡ table-words cap) × (g ≤ group-limit) ⌝ }
     ensures { λ r. ⌜ r ≡ all-zero (part (now (t .entry)) (bodies-at + cap * g) (table-words cap)) ⌝ }
@@ -58,8 +59,7 @@ fn unused_zero(t: &[u64], g: usize, cap: usize) -> bool
 {
     let contents = CONTENTS_AT + g;
     let members = MEMBERS_AT + g;
-    all_zero(&t[contents..MEMBERS_AT])
-        & (all_zero(&t[members..LINKS_AT]) & bodies_zero(t, g, cap))
+    all_zero(&t[contents..MEMBERS_AT]) & (all_zero(&t[members..LINKS_AT]) & bodies_zero(t, g, cap))
 }
 
 // The normal nodes of the roster in no s_group.

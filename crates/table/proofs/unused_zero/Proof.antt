@@ -1,8 +1,6 @@
 -- `table::unused_zero` meets its contract: the three parts are tested.
 -- Assumes nothing.
 use borrow.Author.Needs.{needs}
-use native.Mathlib.Omega.{arith}
-use Rattle.groups_test.specs.GroupsBelow.{bodies-before}
 use Rattle.table.proofs.unused_zero.Statement.{statement}
 use Rattle.table.proofs.unused_zero.Tie as tie
 
@@ -11,22 +9,6 @@ add-contents c = search needs
 
 add-members : tie.Need-add-members
 add-members c = search needs
-
-mul-bodies : tie.Need-mul-bodies
-mul-bodies c =
-    let a = c .before .args in
-    search (needs, bodies-before (a .cap) (a .g) (omega arith))
-
-add-bodies : tie.Need-add-bodies
-add-bodies c =
-    let a = c .before .args in
-    search (needs, bodies-before (a .cap) (a .g) (omega arith))
-
-mul-end : tie.Need-mul-end
-mul-end c = search needs
-
-add-end : tie.Need-add-end
-add-end c = search needs
 
 mul-all-zero : tie.Need-mul-all-zero
 mul-all-zero c = search needs
@@ -58,29 +40,11 @@ part-all-zero-end-2 c = search needs
 all-zero-requires-2 : tie.Need-all-zero-requires-2
 all-zero-requires-2 c κs = search needs
 
-mul-all-zero-3 : tie.Need-mul-all-zero-3
-mul-all-zero-3 c =
-    let a = c .before .before .before .before .before .args in
-    search (needs, bodies-before (a .cap) (a .g) (omega arith))
-
-sub-all-zero-3 : tie.Need-sub-all-zero-3
-sub-all-zero-3 c =
-    let a = c .before .before .before .before .before .args in
-    search (needs, bodies-before (a .cap) (a .g) (omega arith))
-
-part-all-zero-start-3 : tie.Need-part-all-zero-start-3
-part-all-zero-start-3 c =
-    let a = c .before .before .before .before .before .args in
-    search (needs, bodies-before (a .cap) (a .g) (omega arith))
-
-part-all-zero-end-3 : tie.Need-part-all-zero-end-3
-part-all-zero-end-3 c = search needs
-
-all-zero-requires-3 : tie.Need-all-zero-requires-3
-all-zero-requires-3 c κs = search needs
+bodies-zero-requires : tie.Need-bodies-zero-requires
+bodies-zero-requires c κs = search needs
 
 returns : tie.Need-returns
-returns c = rw (c .before .before .before .before .all-zero .ensures, c .before .before .all-zero2 .ensures, c .all-zero3 .ensures)
+returns c = rw (c .before .before .before .all-zero .ensures, c .before .all-zero2 .ensures, c .bodies-zero .ensures)
 
 pub unused-zero-spec : {M : Type 1} → statement M
 unused-zero-spec =
@@ -88,10 +52,6 @@ unused-zero-spec =
     (tie.spec
     add-contents
     add-members
-    mul-bodies
-    add-bodies
-    mul-end
-    add-end
     mul-all-zero
     sub-all-zero
     part-all-zero-start
@@ -102,9 +62,5 @@ unused-zero-spec =
     part-all-zero-start-2
     part-all-zero-end-2
     all-zero-requires-2
-    mul-all-zero-3
-    sub-all-zero-3
-    part-all-zero-start-3
-    part-all-zero-end-3
-    all-zero-requires-3
+    bodies-zero-requires
     returns)

@@ -10,7 +10,7 @@ use Rattle.nodes.specs.Sets.{node-limit, has}
 use Rattle.entries.specs.Entries.{host, lookup}
 use Rattle.semantics.specs.Sizes.{names-per-group}
 use Rattle.semantics.specs.State.{Group, State, find}
-use Rattle.commands.specs.declared.Command.the-variants.{WhereisNameAt, SendName, SendAt}
+use Rattle.commands.specs.declared.Command.the-variants.{WhereisNameAt, Send, SendName, SendAt}
 use Rattle.answers.specs.Answers.{answer-of}
 use Rattle.semantics.specs.Steps.{connect, pid-or-undefined, Looked, looked, nothing-found, look-in, ask, send-on}
 use Rattle.semantics.specs.Test.{sound}
@@ -18,14 +18,16 @@ use Rattle.semantics.specs.Regular.{Regular}
 use Rattle.semantics.specs.NamesKept.{host-found}
 use Rattle.semantics.specs.Changed.{regular-found}
 use Rattle.semantics.specs.WordsOfState.{Laid}
+use Rattle.answers.specs.declared.Value.the-variants.{Pid}
 use Rattle.answers.specs.declared.Reason.{Reason}
 use Rattle.answers.specs.declared.Reason.the-variants.{Done, NotRegistered, NotMember}
 use Rattle.names.specs.declared.Lookup.{Lookup}
 use Rattle.names.specs.declared.Lookup.the-variants.{Found}
-use Rattle.inputs.specs.Judge.{name-reason, asking-reason}
+use Rattle.inputs.specs.Judge.{name-reason, asking-reason, host-reason}
 use Rattle.names.specs.Looked.{looked-up}
+use Rattle.connecting.specs.PairConnected.{connect-same}
 use Rattle.place.specs.Sound.{here, regular}
-use Rattle.returns.specs.Judged.{passed, step-whereis-at, step-send-at, step-send-name}
+use Rattle.returns.specs.Judged.{passed, step-whereis-at, step-send, step-send-at, step-send-name}
 use Rattle.returns.specs.Shown.{Says, says}
 
 -- a pid that is found has its host on the roster
@@ -72,3 +74,10 @@ module _ (t : List ℕ) (ok : sound names-per-group t ≡ true) (i : ℕ) where
         subst (λ (y : Looked). Laid names-per-group (send-on i (y .found) (here t)) u
         → Says 0 i (SendName s n) t (answer-of (pid-or-undefined (y .found)) (y .reason)) u) (sym f)
         (says t ok (passed (step-send-name 0 i (here t) s n) e h) u)
+
+  module _ (p : ℕ) {q : Reason} (e : q ≡ host-reason (here t .size) i p) (h : q ≡ Done) (u : List ℕ) where
+    -- a node connects with itself by doing nothing, so that the caller connects with the host alone
+    pub send-told : Laid names-per-group (connect i (host p) (connect i i (here t))) u → Says 0 i (Send p) t (answer-of (Pid p) Done) u
+    send-told l =
+        says t ok (passed (step-send 0 i (here t) p) e h) u
+        (subst (λ (st : State). Laid names-per-group (connect i (host p) st) u) (connect-same i i (here t) refl) l)

@@ -16,22 +16,29 @@ use names::Lookup;
 use names::look;
 ghost use mathlib.Core.Path.{_≡_};
 ghost use mathlib.Core.Bool.{true};
+ghost use Prim.Native.Nat.{_<_};
 ghost use lib.ListN.{length};
+ghost use Rattle.nodes.specs.Sets.{node-limit};
 ghost use Rattle.semantics.specs.Sizes.{names-per-group, table-words};
 ghost use Rattle.commands.specs.declared.Command.the-variants.{WhereisNameAt, Send, SendName, SendAt};
+ghost use Rattle.semantics.specs.State.{State};
+ghost use Rattle.semantics.specs.Steps.{connect};
+ghost use Rattle.semantics.specs.Regular.{Regular};
+ghost use Rattle.semantics.specs.WordsOfState.{Laid};
 ghost use Rattle.semantics.specs.Test.{sound};
 ghost use Rattle.semantics.specs.Call.{call};
 
-// The node a connects with b, which may be a itself, and then with c. A function of its own, so that a command that connects stays short.
-fn connect_both(t: &mut [u64], a: u32, b: u32, c: u32)
+// The caller connects with the node on the way, and then with the host. Where nobody else is asked, the caller itself is the way. A function of
+// its own, so that sends stay short.
+fn connect_by(t: &mut [u64], caller: u32, way: u32, host: u32)
     requires { ⌜ length (now t) ≡ table-words names-per-group ⌝ }
-    requires { ⌜ a < node-limit ⌝ }
-    requires { ⌜ b < node-limit ⌝ }
-    requires { ⌜ c < node-limit ⌝ }
-    ensures { λ _. ⌜ ((st : State) → Laid names-per-group st (now (t .entry)) → Regular names-per-group st → Laid names-per-group (connect a c (connect a b st)) (now (t .exit))) ⌝ }
+    requires { ⌜ caller < node-limit ⌝ }
+    requires { ⌜ way < node-limit ⌝ }
+    requires { ⌜ host < node-limit ⌝ }
+    ensures { λ _. ⌜ ((st : State) → Laid names-per-group st (now (t .entry)) → Regular names-per-group st → caller < st .size → way < st .size → Laid names-per-group (connect caller host (connect caller way st)) (now (t .exit))) ⌝ }
 {
-    connect(t, a, b);
-    connect(t, a, c);
+    connect(t, caller, way);
+    connect(t, caller, host);
 }
 
 // What the node finds under the name in the s_group; the caller connects with the node.
@@ -66,7 +73,7 @@ pub fn send(t: &mut [u64], caller: u32, p: u32) -> Answer
     let Reason::Done = reason else {
         return refused(reason);
     };
-    connect_both(t, caller, caller, p / PIDS_PER_HOST);
+    connect_by(t, caller, caller, p / PIDS_PER_HOST);
     done(Value::Pid(p))
 }
 
@@ -105,7 +112,7 @@ pub fn send_at(t: &mut [u64], caller: u32, node: u32, s: u32, n: u32) -> Answer
     };
     match look(t, node, s, n) {
         Lookup::Found(pid) => {
-            connect_both(t, caller, node, pid / PIDS_PER_HOST);
+            connect_by(t, caller, node, pid / PIDS_PER_HOST);
             done(Value::Pid(pid))
         }
         Lookup::Missing(why) => {

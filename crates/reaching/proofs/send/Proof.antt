@@ -2,14 +2,16 @@
 -- Assumes nothing.
 use borrow.Author.Needs.{needs}
 use mathlib.Core.Path.{sym, _∙_}
+use Prim.Native.Nat.{_<_}
 use native.Mathlib.Omega.{arith}
 use lib.ListN.{getD}
+use Rattle.entries.specs.Entries.{host}
 use Rattle.semantics.specs.Table.{state-of}
 use Rattle.inputs.specs.Passed.{host-done}
 use Rattle.place.specs.Sound.{here, regular, base, nodes-few}
-use Rattle.returns.specs.Judged.{refused, passed, step-send}
-use Rattle.returns.specs.Shown.{says, says-kept}
-use Rattle.reaching.specs.Reaching.{in-limit}
+use Rattle.returns.specs.Judged.{refused, step-send}
+use Rattle.returns.specs.Shown.{says-kept}
+use Rattle.reaching.specs.Reaching.{in-limit, send-told}
 use Rattle.inputs.proofs.Reasons.{not-done}
 use Rattle.reaching.proofs.send.Statement.{statement}
 use Rattle.reaching.proofs.send.Tie as tie
@@ -17,6 +19,13 @@ use Rattle.reaching.proofs.send.Tie as tie
 -- the start of the step
 abbrev start : tie.After-enum-told → tie.Start
 start c = c .before .before .before .before .before
+
+-- the caller and the host are on the roster
+judged : (c : tie.After-enum-told) → let a = start c .args in (a .caller < here (a .t .now) .size) × (host (a .p) < here (a .t .now) .size)
+unfolding state-of
+judged c =
+    let a = start c .args in
+    host-done (getD (a .t .now) 0 0) (a .caller) (a .p) (sym (c .before .before .host-reason .ensures) ∙ c .enum-told .given .1)
 
 slice-read-size : tie.Need-slice-read-size
 slice-read-size c = search needs
@@ -40,14 +49,14 @@ returns c =
     rw (c .refused .ensures) (says-kept (p .args .t .now) (p .pre .1)
     (refused (step-send 0 (p .args .caller) (here (p .args .t .now)) (p .args .p)) (c .before .before .host-reason .ensures) (not-done (c .before .before .host-reason .result) (c .before .match .keys2))))
 
-connect-requires : tie.Need-connect-requires
-unfolding state-of
-connect-requires c κs =
-    let j = c .before in
-    let p = start j in
+connect-by-requires : tie.Need-connect-by-requires
+connect-by-requires c κs =
+    let p = start (c .before) in
     let t = p .args .t .now in
-    let d = host-done (getD t 0 0) (p .args .caller) (p .args .p) (sym (j .before .before .host-reason .ensures) ∙ j .enum-told .given .1) in
-    (p .pre .0, (in-limit t (p .pre .1) (d .0), in-limit t (p .pre .1) (d .1)))
+    let d = judged (c .before) in
+    let from = in-limit t (p .pre .1) (d .0) in
+    let to = in-limit t (p .pre .1) (d .1) in
+    (p .pre .0, (omega arith, (omega arith, omega arith)))
 
 done-requires : tie.Need-done-requires
 done-requires c κs = search needs
@@ -62,8 +71,9 @@ returns-2 c =
     let j = k .before .before in
     let p = start j in
     let t = p .args .t .now in
-    rw (c .done .ensures) (says t (p .pre .1) (passed (step-send 0 (p .args .caller) (here t) (p .args .p)) (j .before .before .host-reason .ensures) (j .enum-told .given .1)) (k .connect .last .0)
-    (k .connect .ensures (here t) (base t (p .pre .1)) (regular t (p .pre .1))))
+    let d = judged j in
+    rw (c .done .ensures) (send-told t (p .pre .1) (p .args .caller) (p .args .p) (j .before .before .host-reason .ensures) (j .enum-told .given .1) (k .connect-by .last .0)
+    (k .connect-by .ensures (here t) (base t (p .pre .1)) (regular t (p .pre .1)) (d .0) (d .0)))
 
 pub send-spec : {M : Type 1} → statement M
 send-spec =
@@ -75,7 +85,7 @@ send-spec =
     enum-told
     refused-requires
     returns
-    connect-requires
+    connect-by-requires
     done-requires
     same-length
     returns-2)

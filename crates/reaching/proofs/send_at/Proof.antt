@@ -9,7 +9,6 @@ use Rattle.nodes.specs.Sets.{node-limit}
 use Rattle.semantics.specs.Sizes.{group-names}
 use Rattle.semantics.specs.Table.{state-of}
 use Rattle.semantics.specs.Steps.{ask}
-use Rattle.semantics.specs.Connected.{regular-connect}
 use Rattle.names.specs.declared.Lookup.the-variants.{Found, Missing}
 use Rattle.inputs.specs.Passed.{asking-done}
 use Rattle.names.specs.Looked.{looked-up}
@@ -27,26 +26,22 @@ start c = c .before .before .before .before .before
 
 -- both nodes are on the roster
 asked : (c : tie.After-enum-told) → let a = start c .args in
-    (a .caller < getD (a .t .now) 0 0) × (a .s < group-names) × (0 < a .n) × (a .node < getD (a .t .now) 0 0)
+    (a .caller < here (a .t .now) .size) × (a .s < group-names) × (0 < a .n) × (a .node < here (a .t .now) .size)
+unfolding state-of
 asked c =
     let a = start c .args in
     asking-done (getD (a .t .now) 0 0) (a .caller) (a .node) (a .s) (a .n) (sym (c .before .before .asking-reason .ensures) ∙ c .enum-told .given .1)
 
 -- and are nodes that there can be
 limits : (c : tie.After-enum-told) → let a = start c .args in (a .caller < node-limit) × (a .node < node-limit)
-unfolding state-of
 limits c =
     let p = start c in
     let d = asked c in
     (in-limit (p .args .t .now) (p .pre .1) (d .0), in-limit (p .args .t .now) (p .pre .1) (d .3))
 
--- the lookup by the node
-abbrev looked : tie.After-connect → tie.After-look
-looked c = c .before .before
-
 -- the pid that is found
-found : (c : tie.After-known-told) → let a = start (looked (c .before .before .before .before .before) .before .before) .args in looked-up (Found (c .before .found .given .0 .0)) ≡ ask (a .node) (a .s) (a .n) (here (a .t .now))
-found c = ap looked-up (sym (c .before .found .given .1)) ∙ looked (c .before .before .before .before .before) .look .ensures
+found : (c : tie.After-known-told) → let a = start (c .before .before .before .before .before) .args in looked-up (Found (c .before .pid .given .0 .0)) ≡ ask (a .node) (a .s) (a .n) (here (a .t .now))
+found c = ap looked-up (sym (c .before .pid .given .1)) ∙ c .before .before .before .look .ensures
 
 slice-read-size : tie.Need-slice-read-size
 slice-read-size c = search needs
@@ -74,30 +69,29 @@ returns c =
 look-requires : tie.Need-look-requires
 look-requires c κs = search needs
 
-connect-requires : tie.Need-connect-requires
-connect-requires c κs =
-    let j = c .before .before .before in
-    let both = limits j in
-    (start j .pre .0, (omega arith, omega arith))
+enum-known-pid : tie.Need-enum-known-pid
+enum-known-pid c = search needs
 
-enum-known-found : tie.Need-enum-known-found
-enum-known-found c = search needs
-
-connect-requires-2 : tie.Need-connect-requires-2
-unfolding state-of
-connect-requires-2 c κs =
+connect-by-requires : tie.Need-connect-by-requires
+connect-by-requires c κs =
     let e = c .before in
-    let j = looked (e .before .before .before .before .before) .before .before in
+    let j = e .before .before .before .before .before in
     let p = start j in
     let a = p .args in
     let both = limits j in
-    (search needs, (omega arith, in-limit (a .t .now) (p .pre .1) (host-here (a .t .now) (p .pre .1) (a .node) (a .s) (a .n) _ (found e))))
+    (p .pre .0, (omega arith, (omega arith, in-limit (a .t .now) (p .pre .1) (host-here (a .t .now) (p .pre .1) (a .node) (a .s) (a .n) _ (found e)))))
 
 done-requires : tie.Need-done-requires
 done-requires c κs = search needs
 
-enum-known-found-2 : tie.Need-enum-known-found-2
-enum-known-found-2 c = search needs
+enum-known-why : tie.Need-enum-known-why
+enum-known-why c = search needs
+
+connect-requires : tie.Need-connect-requires
+connect-requires c κs =
+    let j = c .before .before .before .before .before .before in
+    let both = limits j in
+    (start j .pre .0, (omega arith, omega arith))
 
 said-requires : tie.Need-said-requires
 said-requires c κs = search needs
@@ -110,16 +104,14 @@ unfolding state-of
 returns-2 c =
     let k = c .before .before .before in
     let e = k .before .before in
-    let f = e .before .before .before .before .before in
-    let j = looked f .before .before in
+    let j = e .before .before .before .before .before in
     let p = start j in
     let a = p .args in
     let t = a .t .now in
-    let w = regular t (p .pre .1) in
     let d = asked j in
     rw (c .done .ensures) (send-at-told t (p .pre .1) (a .caller) (a .node) (a .s) (a .n) (j .before .before .asking-reason .ensures) (j .enum-told .given .1)
-    (Found (e .before .found .given .0 .0)) (found e) (k .connect2 .last .0)
-    (k .connect2 .ensures _ (f .connect .ensures (here t) (base t (p .pre .1)) w) (regular-connect w (a .caller) (a .node) (d .0) (d .3))))
+    (Found (e .before .pid .given .0 .0)) (found e) (k .connect-by .last .0)
+    (k .connect-by .ensures (here t) (base t (p .pre .1)) (regular t (p .pre .1)) (omega arith) (omega arith)))
 
 same-length-2 : tie.Need-same-length-2
 same-length-2 c = search needs
@@ -127,15 +119,16 @@ same-length-2 c = search needs
 returns-3 : tie.Need-returns-3
 unfolding state-of
 returns-3 c =
-    let e = c .before .before in
-    let f = e .before .before .before .before in
-    let j = looked f .before .before in
+    let k = c .before .before .before in
+    let e = k .before .before in
+    let f = e .before .before .before in
+    let j = f .before .before in
     let p = start j in
     let a = p .args in
     let t = a .t .now in
     rw (c .said .ensures) (send-at-told t (p .pre .1) (a .caller) (a .node) (a .s) (a .n) (j .before .before .asking-reason .ensures) (j .enum-told .given .1)
-    (Missing (e .found2 .given .0 .0)) (ap looked-up (sym (e .found2 .given .1)) ∙ looked f .look .ensures) (f .connect .last .0)
-    (f .connect .ensures (here t) (base t (p .pre .1)) (regular t (p .pre .1))))
+    (Missing (e .before .why .given .0 .0)) (ap looked-up (sym (e .before .why .given .1)) ∙ f .look .ensures) (k .connect .last .0)
+    (k .connect .ensures (here t) (base t (p .pre .1)) (regular t (p .pre .1))))
 
 pub send-at-spec : {M : Type 1} → statement M
 send-at-spec =
@@ -148,11 +141,11 @@ send-at-spec =
     refused-requires
     returns
     look-requires
-    connect-requires
-    enum-known-found
-    connect-requires-2
+    enum-known-pid
+    connect-by-requires
     done-requires
-    enum-known-found-2
+    enum-known-why
+    connect-requires
     said-requires
     same-length
     returns-2

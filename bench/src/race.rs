@@ -1,20 +1,29 @@
-//! Times two sides by turns: the best of many short turns, so that other work on the machine disturbs little.
+//! Times two sides by turns: the mean of the quicker half of many short turns, so that other work on the machine disturbs little, and a clock that goes by
+//! coarse steps does neither.
 
 use std::hint::black_box;
 use std::time::Instant;
 
-/// The best time of each of the turns of each side, in nanoseconds, summed up over the turns. Each is timed
-/// so many rounds; `ready` comes before each turn and is not timed. Every other round goes through the sides
-/// backwards: who comes second finds the branch predictor told of the turn's data by who came first.
+/// The mean of the quicker half of the times.
+fn quicker_half(times: &mut [u64]) -> f64 {
+    times.sort_unstable();
+    let half = &times[..times.len().div_ceil(2)];
+    half.iter().sum::<u64>() as f64 / half.len() as f64
+}
+
+/// The time of each side in nanoseconds, summed up over its turns. Each turn is timed so many rounds, and the mean of the quicker half of them counts; `ready`
+/// comes before each turn and is not timed. Every other round goes through the sides backwards: who comes second finds the branch predictor told of the turn's
+/// data by who came first.
 pub fn race<const SIDES: usize>(
     rounds: usize,
     turns: usize,
     mut ready: impl FnMut(usize),
     mut turn: impl FnMut(usize, usize) -> u64,
 ) -> [f64; SIDES] {
-    let mut best = vec![[u64::MAX; SIDES]; turns];
+    let none = || std::array::from_fn(|_| Vec::with_capacity(rounds));
+    let mut times: Vec<[Vec<u64>; SIDES]> = (0..turns).map(|_| none()).collect();
     for round in 0..rounds {
-        for (k, best) in best.iter_mut().enumerate() {
+        for (k, times) in times.iter_mut().enumerate() {
             for step in 0..SIDES {
                 let side = if round % 2 == 0 {
                     step
@@ -24,9 +33,12 @@ pub fn race<const SIDES: usize>(
                 ready(side);
                 let start = Instant::now();
                 black_box(turn(side, k));
-                best[side] = best[side].min(start.elapsed().as_nanos() as u64);
+                times[side].push(start.elapsed().as_nanos() as u64);
             }
         }
     }
-    std::array::from_fn(|side| best.iter().map(|best| best[side] as f64).sum())
+    std::array::from_fn(|side| {
+        let each = times.iter_mut().map(|times| &mut times[side]);
+        each.map(|times| quicker_half(times)).sum()
+    })
 }

@@ -2,7 +2,7 @@
 
 use crate::api::{Api, PLAIN, PLAIN_UNTESTED, PROVED, PROVED_UNTESTED};
 use crate::call::{calls, no_calls, Asked, Lent, Which};
-use crate::race::race;
+use crate::race::{quicker_half, race};
 use crate::tables::{full_with, halves, subset, table, Size, FULL, SMALL};
 use model::prng::Prng;
 
@@ -93,6 +93,7 @@ pub fn timed(sides: Sides, which: Which, words: &[u64], asked: &[Asked]) -> (f64
         );
     }
     let [ours, theirs, empty] = race(
+        quicker_half,
         if asked.len() > TESTED_CALLS {
             ROUNDS
         } else {
@@ -116,6 +117,7 @@ pub fn timed(sides: Sides, which: Which, words: &[u64], asked: &[Asked]) -> (f64
 /// Nanoseconds a test of two sides, on these tables by turns.
 pub fn test_timed(tables: &[Vec<u64>]) -> (f64, f64) {
     let [ours, theirs] = race(
+        quicker_half,
         TEST_ROUNDS,
         TURNS,
         |_| {},

@@ -3,7 +3,7 @@
 use crate::api::{Api, PLAIN, PROVED};
 use crate::call::Lent;
 use crate::commands::{heading, row, BAR};
-use crate::race::race;
+use crate::race::{best, race};
 use model::launch_gen::{self, changed, Launch};
 use model::mutate::random_words;
 use model::prng::Prng;
@@ -289,6 +289,7 @@ fn timed(all: &[Launch]) -> (f64, f64) {
     let once = (start.elapsed().as_nanos() as u64).max(1);
     let rounds = (ROUND_NANOS / once / all.len() as u64).clamp(FEWEST_ROUNDS, MOST_ROUNDS);
     let [ours, theirs, empty] = race(
+        best,
         rounds as usize,
         all.len(),
         |_| {},

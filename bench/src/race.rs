@@ -1,20 +1,27 @@
-//! Times two sides by turns: the mean of the quicker half of many short turns, so that other work on the machine disturbs little, and a clock that goes by
-//! coarse steps does neither.
+//! Times two sides by turns, many rounds of each, so that other work on the machine disturbs little.
 
 use std::hint::black_box;
 use std::time::Instant;
 
-/// The mean of the quicker half of the times.
-fn quicker_half(times: &mut [u64]) -> f64 {
+/// What counts of the times of a turn.
+pub type Count = fn(&mut [u64]) -> f64;
+
+/// The mean of the quicker half: for turns of some nanoseconds, beside which the steps of the clock are coarse.
+pub fn quicker_half(times: &mut [u64]) -> f64 {
     times.sort_unstable();
     let half = &times[..times.len().div_ceil(2)];
     half.iter().sum::<u64>() as f64 / half.len() as f64
 }
 
-/// The time of each side in nanoseconds, summed up over its turns. Each turn is timed so many rounds, and the mean of the quicker half of them counts; `ready`
-/// comes before each turn and is not timed. Every other round goes through the sides backwards: who comes second finds the branch predictor told of the turn's
-/// data by who came first.
+/// The best: for turns of microseconds and more.
+pub fn best(times: &mut [u64]) -> f64 {
+    times.iter().min().map_or(0.0, |best| *best as f64)
+}
+
+/// The time of each side in nanoseconds, summed up over its turns. Each turn is timed so many rounds; `ready` comes before each turn and is not timed. Every
+/// other round goes through the sides backwards: who comes second finds the branch predictor told of the turn's data by who came first.
 pub fn race<const SIDES: usize>(
+    count: Count,
     rounds: usize,
     turns: usize,
     mut ready: impl FnMut(usize),
@@ -39,6 +46,6 @@ pub fn race<const SIDES: usize>(
     }
     std::array::from_fn(|side| {
         let each = times.iter_mut().map(|times| &mut times[side]);
-        each.map(|times| quicker_half(times)).sum()
+        each.map(|times| count(times)).sum()
     })
 }

@@ -2,7 +2,7 @@
 
 use crate::api::{Api, PLAIN, PLAIN_UNTESTED, PROVED, PROVED_UNTESTED};
 use crate::call::{calls, no_calls, Asked, Lent, Which};
-use crate::race::{quicker_half, race};
+use crate::race::{best, quicker_half, race, Count};
 use crate::tables::{full_with, halves, subset, table, Size, FULL, SMALL};
 use model::prng::Prng;
 
@@ -92,13 +92,14 @@ pub fn timed(sides: Sides, which: Which, words: &[u64], asked: &[Asked]) -> (f64
             turn(k)
         );
     }
+    let (count, rounds): (Count, usize) = if asked.len() > TESTED_CALLS {
+        (quicker_half, ROUNDS)
+    } else {
+        (best, TESTED_ROUNDS)
+    };
     let [ours, theirs, empty] = race(
-        quicker_half,
-        if asked.len() > TESTED_CALLS {
-            ROUNDS
-        } else {
-            TESTED_ROUNDS
-        },
+        count,
+        rounds,
         turns,
         |_| {
             lent.borrow_mut()
@@ -117,7 +118,7 @@ pub fn timed(sides: Sides, which: Which, words: &[u64], asked: &[Asked]) -> (f64
 /// Nanoseconds a test of two sides, on these tables by turns.
 pub fn test_timed(tables: &[Vec<u64>]) -> (f64, f64) {
     let [ours, theirs] = race(
-        quicker_half,
+        best,
         TEST_ROUNDS,
         TURNS,
         |_| {},

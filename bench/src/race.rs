@@ -13,7 +13,7 @@ pub fn quicker_half(times: &mut [u64]) -> f64 {
     half.iter().sum::<u64>() as f64 / half.len() as f64
 }
 
-/// The best: for turns of microseconds and more.
+/// The best: for turns that are long beside the steps of the clock.
 pub fn best(times: &mut [u64]) -> f64 {
     times.iter().min().map_or(0.0, |best| *best as f64)
 }

@@ -25,7 +25,7 @@ use Rattle.semantics.specs.FirstReason.{first}
 use Rattle.semantics.specs.Fits.{Fits}
 use Rattle.semantics.specs.Call.{call}
 use Rattle.semantics.specs.Calls.{calls-keep-sound}
-use Rattle.published.specs.Published.{Set, Map, of-some, _∖_, _∩_, any, with-at, less-at, Namespace, SGroup, Published, IsSGroupSNode, FindName, MergeFreeNormalGroups, AddFreeNormalGroup, NewFreeNodes, Step, True, Error, Undefined, Pid, gives, leaving, less-hosted, transition}
+use Rattle.published.specs.Published.{Set, Map, of-some, _∖_, _∩_, any, with-at, less-at, SGroup, Published, IsSGroupSNode, FindName, MergeFreeNormalGroups, AddFreeNormalGroup, NewFreeNodes, Step, True, Error, Undefined, Pid, gives, leaving, less-hosted, transition}
 use Rattle.published.specs.SomeBelow.{any-hit}
 use Rattle.published.specs.SeenState.{said, seen-table}
 use Rattle.published.specs.Refusals.{tests, ruled, refusal, Answered, answer}

@@ -6,7 +6,7 @@ use mathlib.Core.Bool.{Bool, true, false, not, _&&_, cond}
 use Prim.Native.Nat.{ℕ}
 use lib.Dec.{eqb, leb}
 use lib.ListN.{length}
-use Rattle.nodes.specs.Sets.{has, union, inter, diff, beyond, count}
+use Rattle.nodes.specs.Sets.{has, union, inter, beyond, count}
 use Rattle.nodes.specs.Bools.{by-test}
 use Rattle.entries.specs.Entries.{host, insert, remove, lookup, holds-pid}
 use Rattle.semantics.specs.Sizes.{group-limit, group-names}

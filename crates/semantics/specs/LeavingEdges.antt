@@ -4,7 +4,6 @@ use mathlib.Core.List.{List, [], _∷_}
 use Prim.Native.Nat.{ℕ, zero, suc, _*_, _+_}
 use Rattle.entries.specs.Entries.{Entry, pids-per-host}
 use Rattle.semantics.specs.Sizes.{names-per-group}
-use Rattle.semantics.specs.State.{Group}
 use Rattle.commands.specs.declared.Command.the-variants.{RegisterName, WhereisName, RemoveNodes}
 use Rattle.semantics.specs.Call.{call}
 use Rattle.semantics.specs.Marked.{claim}

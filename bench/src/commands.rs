@@ -2,6 +2,7 @@
 
 use crate::api::{Api, PLAIN, PLAIN_UNTESTED, PROVED, PROVED_UNTESTED};
 use crate::call::{calls, no_calls, Asked, Lent, Which};
+use crate::plain::sound::{BODIES, BODY, CONTENTS, MEMBERS};
 use crate::race::{best, quicker_half, race, Count};
 use crate::tables::{full_with, halves, subset, table, Size, FULL, SMALL};
 use model::prng::Prng;
@@ -46,8 +47,8 @@ pub fn main_cases(prng: &mut Prng, which: Which, words: &[u64], calls: usize) ->
     (0..calls)
         .map(|k| {
             let place = prng.below(groups) as usize;
-            let (contents, members) = (words[4 + place], words[36 + place]);
-            let held = words[196 + 32 * place + prng.below(contents >> 16) as usize];
+            let (contents, members) = (words[CONTENTS + place], words[MEMBERS + place]);
+            let held = words[BODIES + BODY * place + prng.below(contents >> 16) as usize];
             let anyone = prng.below(nodes) as u32;
             let caller = pick(prng, members);
             let free_caller = matches!(

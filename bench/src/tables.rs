@@ -1,5 +1,6 @@
 //! Sound tables of a chosen size.
 
+use crate::plain::sound::{BODIES, BODY, CONTENTS, FREE, LINKS, MEMBERS, WORDS};
 use model::prng::Prng;
 
 /// How large a table is: nodes, s_groups, members of each, names of each.
@@ -53,7 +54,7 @@ pub fn full_with(prng: &mut Prng, number: impl Fn(u64, u64) -> u64) -> Vec<u64> 
     let mut words = table(prng, FULL);
     for group in 0..32 {
         for k in 0..32 {
-            let word = &mut words[196 + 32 * group + k];
+            let word = &mut words[BODIES + BODY * group + k];
             *word = (*word >> 32) << 32
                 | (2 * k as u64 * PIDS_PER_HOST + number(group as u64, k as u64));
         }
@@ -71,11 +72,11 @@ pub fn hosted(
     let mut words = table(prng, size);
     let mut serial = [1u64; 64];
     for group in 0..size.groups {
-        let members = words[36 + group];
+        let members = words[MEMBERS + group];
         for k in 0..size.names {
             let home = host(prng, members, k);
             serial[home as usize] += 1 + prng.below(3);
-            let word = &mut words[196 + 32 * group + k];
+            let word = &mut words[BODIES + BODY * group + k];
             *word = (*word >> 32) << 32 | (u64::from(home) * PIDS_PER_HOST + serial[home as usize]);
         }
     }
@@ -84,7 +85,7 @@ pub fn hosted(
 
 /// A sound table of this size, its groups drawn at random. Free normal nodes stand alone.
 pub fn table(prng: &mut Prng, size: Size) -> Vec<u64> {
-    let mut words = vec![0u64; 1220];
+    let mut words = vec![0u64; WORDS];
     words[0] = size.nodes;
     words[2] = size.groups as u64;
     let mut serial = vec![1u64; 64];
@@ -92,16 +93,16 @@ pub fn table(prng: &mut Prng, size: Size) -> Vec<u64> {
     for i in 0..size.groups {
         let set = subset(prng, size.nodes, size.members);
         grouped |= set;
-        words[4 + i] = (3 + 5 * i as u64) + 65_536 * size.names as u64;
-        words[36 + i] = set;
+        words[CONTENTS + i] = (3 + 5 * i as u64) + 65_536 * size.names as u64;
+        words[MEMBERS + i] = set;
         for node in (0..64).filter(|node| set >> node & 1 == 1) {
-            words[68 + node] |= set & !(1 << node);
+            words[LINKS + node] |= set & !(1 << node);
         }
         let held = names(prng, size, &mut serial);
-        words[196 + 32 * i..][..held.len()].copy_from_slice(&held);
+        words[BODIES + BODY * i..][..held.len()].copy_from_slice(&held);
     }
     for node in (0..size.nodes).filter(|node| grouped >> node & 1 == 0) {
-        words[132 + node as usize] = 1 << node;
+        words[FREE + node as usize] = 1 << node;
     }
     words
 }
@@ -110,7 +111,7 @@ pub fn table(prng: &mut Prng, size: Size) -> Vec<u64> {
 /// node 0 is connected to node 32, which makes one free group of all where there is no s_group.
 pub fn halves(group: bool, bridged: bool) -> Vec<u64> {
     let (low, high) = (u64::from(u32::MAX), u64::from(u32::MAX) << 32);
-    let mut words = vec![0u64; 1220];
+    let mut words = vec![0u64; WORDS];
     words[0] = 64;
     for node in 0..64usize {
         let own = match (node < 32, bridged && !group) {
@@ -118,17 +119,17 @@ pub fn halves(group: bool, bridged: bool) -> Vec<u64> {
             (true, false) => low,
             (false, false) => high,
         };
-        words[68 + node] = own & !(1 << node);
-        words[132 + node] = own;
+        words[LINKS + node] = own & !(1 << node);
+        words[FREE + node] = own;
     }
     if group {
         words[2] = 1;
-        words[4] = 3;
-        words[36] = low;
-        words[132..164].fill(0);
+        words[CONTENTS] = 3;
+        words[MEMBERS] = low;
+        words[FREE..FREE + 32].fill(0);
         if bridged {
-            words[68] |= 1 << 32;
-            words[68 + 32] |= 1;
+            words[LINKS] |= 1 << 32;
+            words[LINKS + 32] |= 1;
         }
     }
     words

@@ -15,7 +15,7 @@ use Rattle.commands.specs.declared.Command.{Command}
 use Rattle.commands.specs.declared.Command.the-variants.{NewSGroup, AddNodes, RemoveNodes, DeleteSGroup}
 use Rattle.answers.specs.Answers.{answer-of}
 use Rattle.semantics.specs.Ranges.{held}
-use Rattle.semantics.specs.Steps.{interconnect, leave-free, become-free, Result, reply, error, for-member, left-in, apply}
+use Rattle.semantics.specs.Steps.{interconnect, leave-free, become-free, Result, reply, error, for-member, kept-names, left-in, apply}
 use Rattle.semantics.specs.Test.{sound}
 use Rattle.semantics.specs.Truth.{or-cases, unless}
 use Rattle.semantics.specs.Groups.{Found, all-found, all-put}
@@ -53,8 +53,8 @@ abbrev pub removed : ℕ → ℕ → State → Group → Result
 removed s set st g = reply True Done (become-free (inter (g .members) set) (left-in s set g (st .groups)) st)
 
 -- the s_group g, at a place of the state, with the members m left and without the names of the nodes that are gone
-abbrev pub less : ℕ → ℕ → ℕ → State → Group → Group
-less m gone at st g = manned m (renamed (drop-hosted gone (names-at at st)) g)
+abbrev pub lessened : ℕ → ℕ → ℕ → State → Group → Group
+lessened m gone at st g = manned m (renamed (drop-hosted gone (names-at at st)) g)
 
 -- the s_group goes
 abbrev pub gone : ℕ → State → Group → Result
@@ -132,14 +132,14 @@ module _ (t : List ℕ) (ok : sound names-per-group t ≡ true) (i s : ℕ) wher
 
         -- some are left
         pub remove-left : (left ≡ 0 → ⊥) → (gone : ℕ) → gone ≡ inter (getD t (members-at + at) 0) set
-            → Laid names-per-group (become-free gone (o .seat .before ++ less left gone at (here t) (o .seat .group) ∷ o .seat .after) (here t)) u
+            → Laid names-per-group (become-free gone (o .seat .before ++ lessened left gone at (here t) (o .seat .group) ∷ o .seat .after) (here t)) u
             → Says 0 i (RemoveNodes s set) t (answer-of True Done) u
         remove-left n gone eg l =
             let g = o .seat .group in
-            goes (ap (λ (x : Bool). cond x (drop-group s (here t .groups)) (put s (diff (g .members) set) (drop-hosted (inter (g .members) set) (g .names)) (here t .groups))) (ne-eqb _ 0 (λ z. n (left-is ∙ z)))
+            goes (ap (λ (x : Bool). cond x (drop-group s (here t .groups)) (put s (diff (g .members) set) (kept-names set g) (here t .groups))) (ne-eqb _ 0 (λ z. n (left-is ∙ z)))
             ∙ o .seat .putting _ _)
             (subst (λ (x : State). Laid names-per-group x u)
-            (ap₂ (λ (x y : ℕ). become-free x (o .seat .before ++ less y x at (here t) g ∷ o .seat .after) (here t))
+            (ap₂ (λ (x y : ℕ). become-free x (o .seat .before ++ lessened y x at (here t) g ∷ o .seat .after) (here t))
             (eg ∙ ap (λ (x : ℕ). inter x set) (members-seated t ok (o .seat))) left-is
             ∙ ap (λ (ns : List Entry). become-free (inter (g .members) set) (o .seat .before ++ manned (diff (g .members) set) (renamed (drop-hosted (inter (g .members) set) ns) g) ∷ o .seat .after) (here t))
             (names-of (here t) (o .seat))) l)
@@ -150,7 +150,7 @@ module _ (t : List ℕ) (ok : sound names-per-group t ≡ true) (i s : ℕ) wher
         remove-all z l =
             let none : empty (diff (o .seat .group .members) set) ≡ true = eq-eqb _ 0 (sym left-is ∙ z) in
             let every : inter (o .seat .group .members) set ≡ o .seat .group .members = eqb-true _ _ (subset-diff (o .seat .group .members) set ∙ none) in
-            goes (ap (λ (x : Bool). cond x (drop-group s (here t .groups)) (put s (diff (o .seat .group .members) set) (drop-hosted (inter (o .seat .group .members) set) (o .seat .group .names)) (here t .groups))) none ∙ o .seat .dropping)
+            goes (ap (λ (x : Bool). cond x (drop-group s (here t .groups)) (put s (diff (o .seat .group .members) set) (kept-names set (o .seat .group)) (here t .groups))) none ∙ o .seat .dropping)
             (subst (λ (x : ℕ). Laid names-per-group (become-free x (o .seat .before ++ o .seat .after) (here t)) u) (members-seated t ok (o .seat) ∙ sym every) l)
 
   -- ---- delete_s_group

@@ -12,17 +12,17 @@ use lib.ListN.{length, getD}
 use borrow.Author.Tests.{eqb-true, eq-eqb, ltb-true, lt-ltb, not-true}
 use Rattle.nodes.specs.Sets.{node-limit, has, empty, union, inter, diff}
 use Rattle.nodes.specs.SetLaws.{has-union, has-inter, has-diff, has-none, has-below, below-pow, union-lt, inter-le-l, inter-le-r, diff-le}
-use Rattle.entries.specs.Entries.{Entry, lookup, drop-hosted}
+use Rattle.entries.specs.Entries.{lookup}
 use Rattle.semantics.specs.State.{Group, State, free-of, find, put, drop-group, all-members}
 use Rattle.semantics.specs.Ranges.{held}
-use Rattle.semantics.specs.Steps.{lot, touched, become-free, left-in}
+use Rattle.semantics.specs.Steps.{lot, touched, become-free, kept-names, left-in}
 use Rattle.semantics.specs.Regular.{Met, Regular, loose}
 use Rattle.semantics.specs.Groups.{of-found}
 use Rattle.semantics.specs.Members.{in-word}
 use Rattle.semantics.specs.FreeGroupsOfNodes.{loose-on-roster, loose-in, own-free}
 use Rattle.semantics.specs.Changed.{regular-found}
 use Rattle.semantics.specs.Freed.{touched-in, touched-out, regular-delete, regular-remove, regular-empty}
-use Rattle.published.specs.Published.{Set, Map, of-some, _∖_, _∩_, any, with-at, less-at, Namespace, SGroup, GrNames, Node, Published, those, with-gr-names, IsSGroupNode, InterConnectNodes, Joined, LessSGroupS, RemoveSGroup, left-none, leaving, less-hosted}
+use Rattle.published.specs.Published.{Set, Map, of-some, _∖_, _∩_, any, with-at, less-at, Namespace, SGroup, GrNames, Node, Published, those, with-gr-names, IsSGroupNode, InterConnectNodes, Joined, LessSGroupS, RemoveSGroup, left-none, leaving, less-hosted, less-members}
 use Rattle.published.specs.SeenState.{seen, published, names-seen}
 use Rattle.published.specs.SomeBelow.{any-hit, any-is, any-has}
 use Rattle.published.specs.GroupsSeen.{on-some, member, groups-seen, free-seen, hidden-seen, node-seen, nodes-seen, put-seen, drop-seen, members-seen}
@@ -263,23 +263,19 @@ module _ {cap : ℕ} (st : State) (w : Regular cap st) (s : ℕ) (g : Group) (f 
     shrunk ns i t true e = has-diff (g .members) set i ∙ sym (rw (here i t e, and-true (has set i)))
     shrunk ns i t false e = sym (rw (and-false (has set i)) (and-true (member i (groups-seen (st .groups) t))))
 
-    -- the names that are left
-    abbrev kept : List Entry
-    kept = drop-hosted (inter (g .members) set) (g .names)
-
-    kept-seen : (λ n. lookup n kept) ≡ less-hosted (has (g .members) ∩ has set) (λ n. lookup n (g .names))
+    kept-seen : (λ n. lookup n (kept-names set g)) ≡ less-hosted (has (g .members) ∩ has set) (λ n. lookup n (g .names))
     kept-seen =
         fun-ext (drop-hosted-seen (inter (g .members) set) (g .names) (regular-found w s g f .names-sound .names))
         ∙ ap (λ (nis : Set). less-hosted nis (λ n. lookup n (g .names))) (fun-ext (has-inter (g .members) set))
 
-    -- the s_groups when the set has left
+    -- the s_groups when the set has left, and whether some are left in g
     abbrev rest : Bool → Map SGroup
     rest x =
         cond x (with-at s (record { nodes = has (g .members) ∖ has set; namespace = less-hosted (has (g .members) ∩ has set) (λ n. lookup n (g .names)) }) (published st .grs))
         (less-at s (published st .grs))
 
     by-rest : (x : Bool) → empty (diff (g .members) set) ≡ x
-        → published (become-free (inter (g .members) set) (cond x (drop-group s (st .groups)) (put s (diff (g .members) set) kept (st .groups))) st)
+        → published (become-free (inter (g .members) set) (cond x (drop-group s (st .groups)) (put s (diff (g .members) set) (kept-names set g) (st .groups))) st)
         ≡ leaving s (has set) (rest (not x)) (published st)
     unfolding published
     by-rest true e =
@@ -288,10 +284,10 @@ module _ {cap : ℕ} (st : State) (w : Regular cap st) (s : ℕ) (g : Group) (f 
         gone-is (lt-of-le-of-lt (inter-le-l (g .members) set) (regular-found w s g f .on-roster)) gone-met
         ∙ ap (λ (x : Map SGroup). leaving s (has set) x (published st)) (drop-seen s (st .groups))
     by-rest false e =
-        freed-seen st w (inter (g .members) set) (put s (diff (g .members) set) kept (st .groups)) (regular-remove w s g f set e) s (has set)
-        (λ i t. ap (member i) (put-seen s (st .groups) g f (diff (g .members) set) kept t) ∙ shrunk _ i t (eqb s t) refl)
+        freed-seen st w (inter (g .members) set) (put s (diff (g .members) set) (kept-names set g) (st .groups)) (regular-remove w s g f set e) s (has set)
+        (λ i t. ap (member i) (put-seen s (st .groups) g f (diff (g .members) set) (kept-names set g) t) ∙ shrunk _ i t (eqb s t) refl)
         gone-is (lt-of-le-of-lt (inter-le-l (g .members) set) (regular-found w s g f .on-roster)) gone-met
-        ∙ ap (λ (x : Map SGroup). leaving s (has set) x (published st)) (fun-ext (put-seen s (st .groups) g f (diff (g .members) set) kept)
+        ∙ ap (λ (x : Map SGroup). leaving s (has set) x (published st)) (fun-ext (put-seen s (st .groups) g f (diff (g .members) set) (kept-names set g))
         ∙ ap₂ (λ (nis : Set) (ns : Namespace). with-at s (record { nodes = nis; namespace = ns }) (groups-seen (st .groups)))
         (fun-ext (has-diff (g .members) set)) kept-seen)
 
@@ -301,5 +297,5 @@ module _ {cap : ℕ} (st : State) (w : Regular cap st) (s : ℕ) (g : Group) (f 
         ∙ any-has (diff (g .members) set) (in-word (w .size-high) (lt-of-le-of-lt (diff-le (g .members) set) (regular-found w s g f .on-roster)))
 
     pub removes : published (become-free (inter (g .members) set) (left-in s set g (st .groups)) st)
-        ≡ leaving s (has set) (rest (any node-limit (has (g .members) ∖ has set))) (published st)
+        ≡ leaving s (has set) (less-members s (has set) (seen g) (published st .grs)) (published st)
     removes = by-rest (empty (diff (g .members) set)) refl ∙ ap (λ (x : Bool). leaving s (has set) (rest x) (published st)) (sym some-left)

@@ -19,7 +19,7 @@ pub mod SeenState
 pub mod Determined
 pub mod Built
 pub mod Fair
--- ---- what 000 and 001 say of states and lists: the three classes divide the nodes, free groups as a set of sets, lists ascend
+-- ---- what 000 and 001 say of states and lists: the three classes divide the nodes, free groups as a set of sets, lists ascend; what 02 says of names that left
 pub mod Classes
 pub mod FreeGroups
 pub mod Listed

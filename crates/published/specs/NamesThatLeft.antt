@@ -11,25 +11,19 @@ use borrow.Author.Tests.{eq-eqb, ne-eqb}
 use Rattle.nodes.specs.NodeSets.{node-limit, has}
 use Rattle.entries.specs.Pids.{host}
 use Rattle.entries.specs.EntryLaws.{held-or-not}
-use Rattle.commands.specs.declared.Command.{Command}
 use Rattle.commands.specs.declared.Command.the-variants.{WhereisName, RemoveNodes}
 use Rattle.answers.specs.Answers.{answer-of}
-use Rattle.answers.specs.declared.Answer.{Answer}
-use Rattle.answers.specs.declared.Value.{Value}
 use Rattle.answers.specs.declared.Value.the-variants as W
-use Rattle.answers.specs.declared.Reason.{Reason}
 use Rattle.answers.specs.declared.Reason.the-variants.{Done}
 use Rattle.semantics.specs.Sizes.{names-per-group}
 use Rattle.semantics.specs.Soundness.{Sound}
-use Rattle.semantics.specs.FirstReason.{first}
 use Rattle.semantics.specs.Fits.{Fits}
 use Rattle.semantics.specs.Call.{call}
 use Rattle.semantics.specs.Calls.{calls-keep-sound}
-use Rattle.published.specs.Published.{Set, Map, of-some, _∖_, _∩_, any, with-at, less-at, SGroup, Published, IsSGroupSNode, FindName, MergeFreeNormalGroups, AddFreeNormalGroup, NewFreeNodes, Step, True, Error, Undefined, Pid, gives, leaving, less-hosted, transition}
+use Rattle.published.specs.Published.{Set, Map, of-some, _∖_, _∩_, any, with-at, less-at, SGroup, Published, IsSGroupSNode, FindName, MergeFreeNormalGroups, AddFreeNormalGroup, NewFreeNodes, True, Error, Undefined, Pid, gives, leaving, less-hosted, less-members, transition}
 use Rattle.published.specs.SomeBelow.{any-hit}
 use Rattle.published.specs.SeenState.{said, seen-table}
-use Rattle.published.specs.Refusals.{tests, ruled, refusal, Answered, answer}
-use Rattle.published.specs.Exact.{exact-call}
+use Rattle.published.specs.Exact.{accepted-call}
 
 -- ---- nodes that become free change no s_group
 
@@ -44,12 +38,6 @@ merged-keeps nis css X = either (not (any node-limit nis)) X X _ refl (either (n
 freed-keeps : (X : Published) → NewFreeNodes X .grs ≡ X .grs
 unfolding NewFreeNodes AddFreeNormalGroup
 freed-keeps X = merged-keeps _ _ _
-
--- the state when the nodes of the set have left the s_group h, which is s
-abbrev removed : ℕ → ℕ → SGroup → Published → Published
-removed s set h X =
-    leaving s (has set)
-    (cond (any node-limit (h .nodes ∖ has set)) (with-at s (record { nodes = h .nodes ∖ has set; namespace = less-hosted (h .nodes ∩ has set) (h .namespace) }) (X .grs)) (less-at s (X .grs))) X
 
 -- ---- a removal by the member ni of the s_group g, which is s
 
@@ -72,8 +60,8 @@ module _ (s set ni : ℕ) (X : Published) (g : SGroup) (is : X .grs s ≡ some g
   after-is : after ≡ cond (any node-limit stay) (with-at s rest (X .grs)) (less-at s (X .grs))
   unfolding transition
   after-is =
-      ap (λ (o : Option SGroup). of-some (gives Error X) (λ h. cond (h .nodes ni) (gives True (removed s set h X)) (gives Error X)) o .state .grs) is
-      ∙ ap (λ (x : Bool). cond x (gives True (removed s set g X)) (gives Error X) .state .grs) member ∙ freed-keeps _
+      ap (λ (o : Option SGroup). of-some (gives Error X) (λ h. cond (h .nodes ni) (gives True (leaving s (has set) (less-members s (has set) h (X .grs)) X)) (gives Error X)) o .state .grs) is
+      ∙ ap (λ (x : Bool). cond x (gives True (leaving s (has set) (less-members s (has set) g (X .grs)) X)) (gives Error X) .state .grs) member ∙ freed-keeps _
 
   -- other s_groups have the members and names that they had
   pub others-stay : (t : ℕ) → (s ≡ t → ⊥) → after t ≡ X .grs t
@@ -129,20 +117,6 @@ module _ (s set ni : ℕ) (X : Published) (g : SGroup) (is : X .grs s ≡ some g
 
 -- ---- on tables
 
--- an accepted call does what 000's rule says
-accepted : (room i : ℕ) (c : Command) (t : List ℕ) → Sound names-per-group t → Fits c → (v : Value) → call room i c t .answer ≡ answer-of v Done
-    → (said (transition c i (seen-table t) .value) .0 ≡ v) × (seen-table (call room i c t .table) ≡ transition c i (seen-table t) .state)
-unfolding answer
-accepted room i c t h fits v a =
-    let e = exact-call room i c t h fits in
-    let X : Published = seen-table t in
-    let why : Reason = first (tests room c i X) in
-    let r : why ≡ Done = sym (ap (λ (x : Answered). x .answer .reason) e) ∙ ap (λ (x : Answer). x .reason) a in
-    let q : cond (ruled why) (transition c i X) (gives (refusal why) X) ≡ transition c i X = ap (λ (x : Reason). cond (ruled x) (transition c i X) (gives (refusal x) X)) r in (
-      sym (ap (λ (x : Step). said (x .value) .0) q) ∙ sym (ap (λ (x : Answered). x .answer .value) e) ∙ ap (λ (x : Answer). x .value) a,
-      ap (λ (x : Answered). x .state) e ∙ ap (λ (x : Step). x .state) q,
-    )
-
 module _ (i s set : ℕ) (t : List ℕ) (h : Sound names-per-group t) (fits : Fits (RemoveNodes s set)) (g : SGroup) (is : seen-table t .grs s ≡ some g)
     (done : call 0 i (RemoveNodes s set) t .answer ≡ answer-of W.True Done) where
   -- who is heard is a member
@@ -157,9 +131,9 @@ module _ (i s set : ℕ) (t : List ℕ) (h : Sound names-per-group t) (fits : Fi
       go true e = refl
       go false e =
           let v : W.Error ≡ W.True =
-          sym (ap (λ (o : Option SGroup). said (of-some (gives Error X) (λ k. cond (k .nodes i) (gives True (removed s set k X)) (gives Error X)) o .value) .0) is
-          ∙ ap (λ (x : Bool). said (cond x (gives True (removed s set g X)) (gives Error X) .value) .0) e)
-          ∙ accepted 0 i (RemoveNodes s set) t h fits W.True done .0 in
+          sym (ap (λ (o : Option SGroup). said (of-some (gives Error X) (λ k. cond (k .nodes i) (gives True (leaving s (has set) (less-members s (has set) k (X .grs)) X)) (gives Error X)) o .value) .0) is
+          ∙ ap (λ (x : Bool). said (cond x (gives True (leaving s (has set) (less-members s (has set) g (X .grs)) X)) (gives Error X) .value) .0) e)
+          ∙ accepted-call 0 i (RemoveNodes s set) t h fits W.True done .0 in
           let z : _≡_ {A = ℕ} 0 1 = cc in absurd (omega arith)
 
   -- A node that left is not found there any more: no plain lookup in the s_group, by whatever node, answers a pid of a member that this call removed
@@ -168,9 +142,9 @@ module _ (i s set : ℕ) (t : List ℕ) (h : Sound names-per-group t) (fits : Fi
   unfolding transition
   not-found j n p f e =
       let u : List ℕ = call 0 i (RemoveNodes s set) t .table in
-      let a = accepted 0 j (WhereisName s n) u (calls-keep-sound 0 i (RemoveNodes s set) t fits h) f (W.Pid p) e in
+      let a = accepted-call 0 j (WhereisName s n) u (calls-keep-sound 0 i (RemoveNodes s set) t fits h) f (W.Pid p) e in
       moved-away s set i (seen-table t) g is by-member j n p
-      (subst (λ (Y : Published). FindName j s n (Y .grs) ≡ some p) (accepted 0 i (RemoveNodes s set) t h fits W.True done .1)
+      (subst (λ (Y : Published). FindName j s n (Y .grs) ≡ some p) (accepted-call 0 i (RemoveNodes s set) t h fits W.True done .1)
       (asked (IsSGroupSNode j s (seen-table u .grs)) (FindName j s n (seen-table u .grs)) (a .0)))
     where
       asked : (x : Bool) (o : Option ℕ) → said (of-some Undefined Pid (cond x o none)) .0 ≡ W.Pid p → o ≡ some p

@@ -286,9 +286,17 @@ leaving s nis grs X = NewFreeNodes (record { grs = grs; fgs = X .fgs; fhs = X .f
 abbrev pub has-pid : ℕ → Namespace → Bool
 has-pid p ns = any half-word (λ n. of-some false (λ q. eqb q p) (ns n))
 
--- ns less the names whose pid lives on a node of nis (02, request 2)
+-- ns less the names whose pid lives on a node of nis
 abbrev pub less-hosted : Set → Namespace → Namespace
 less-hosted nis ns n = of-some none (λ p. cond (nis (host p)) none (some p)) (ns n)
+
+-- the s_groups when the nodes of nis have left g, which is s: the members that leave take along the names whose pid lives on one of them (02, request 2),
+-- and an s_group left empty goes (01)
+abbrev pub less-members : ℕ → Set → SGroup → Map SGroup → Map SGroup
+less-members s nis g grs =
+    cond (any node-limit (g .nodes ∖ nis))
+    (with-at s (record { nodes = g .nodes ∖ nis; namespace = less-hosted (g .nodes ∩ nis) (g .namespace) }) grs)
+    (less-at s grs)
 
 -- what whereis_name/2 finds for ni
 abbrev pub found-by : ℕ → ℕ → ℕ → Map SGroup → Option ℕ
@@ -325,13 +333,9 @@ transition (NewSGroup s set) ni X =
 transition (AddNodes s set) ni X =
     as-member ni s Error X λ g. gives (Grp s (has set)) (joining s (has set) (g .nodes ∪ has set) (g .namespace) X)
 transition (DeleteSGroup s) ni X = as-member ni s Error X λ g. gives True (leaving s (g .nodes) (less-at s (X .grs)) X)
--- the caller may leave too, and an s_group left empty goes (01); the members that leave take along the names whose pid lives on one of them (02)
+-- the caller may leave too (01)
 transition (Command.RemoveNodes s set) ni X =
-    as-member ni s Error X λ g.
-    let left : Set = g .nodes ∖ has set in
-    let ns : Namespace = less-hosted (g .nodes ∩ has set) (g .namespace) in
-    let grs : Map SGroup = cond (any node-limit left) (with-at s (record { nodes = left; namespace = ns }) (X .grs)) (less-at s (X .grs)) in
-    gives True (leaving s (has set) grs X)
+    as-member ni s Error X λ g. gives True (leaving s (has set) (less-members s (has set) g (X .grs)) X)
 transition OwnNodes ni X = gives (Nis (OwnGroupNis ni X)) X
 transition OwnSGroups ni X = gives (Snis (cond (IsSGroupNode ni (X .grs)) (OutputOwnSGroups ni (X .grs)) (λ s. none))) X
 

@@ -13,11 +13,11 @@ use borrow.Author.Tests.{eqb-true, eqb-false, lt-ltb}
 use Rattle.nodes.specs.Sets.{has, empty, union, inter, diff}
 use Rattle.nodes.specs.Bools.{by-test}
 use Rattle.nodes.specs.SetLaws.{has-union, has-inter, has-diff, has-none, has-below, below-pow, none-inter, inter-le-l, diff-le, union-all-in, union-all-out, subset-diff}
-use Rattle.entries.specs.Entries.{Entry, drop-hosted}
+use Rattle.entries.specs.Entries.{Entry}
 use Rattle.entries.specs.NamespaceKept.{sound-drop-hosted}
 use Rattle.semantics.specs.Sizes.{group-limit}
 use Rattle.semantics.specs.State.{Group, State, with-groups, free-of, find, put, drop-group, all-members}
-use Rattle.semantics.specs.Steps.{zip-with, interconnect, lot, near, touched, become-free, left-in}
+use Rattle.semantics.specs.Steps.{zip-with, interconnect, lot, near, touched, become-free, kept-names, left-in}
 use Rattle.semantics.specs.Regular.{Every, Rising, Regular-group, Met, Regular, loose}
 use Rattle.semantics.specs.Truth.{or-cases, neither, unless}
 use Rattle.semantics.specs.Members.{in-word, at-zip-with, length-one-free-group}
@@ -140,10 +140,10 @@ module _ {cap : ℕ} {st : State} (w : Regular cap st) (s : ℕ) (g : Group) (f 
 
   -- some are left
   pub regular-remove : (set : ℕ) → empty (diff (g .members) set) ≡ false
-      → Regular cap (become-free (inter (g .members) set) (put s (diff (g .members) set) (drop-hosted (inter (g .members) set) (g .names)) (st .groups)) st)
+      → Regular cap (become-free (inter (g .members) set) (put s (diff (g .members) set) (kept-names set g) (st .groups)) st)
   regular-remove set manned =
       let m : ℕ = diff (g .members) set in
-      let ns : List Entry = drop-hosted (inter (g .members) set) (g .names) in
+      let ns : List Entry = kept-names set g in
       regular-become-free w (inter (g .members) set) (put s m ns (st .groups)) (omega (arith, length-put s m ns (st .groups), w .groups-few))
       (rising-put s m ns 0 (st .groups) (w .rising))
       (every-put (Regular-group cap (st .size)) (Regular-group cap (st .size)) s m ns (λ k p. p)
@@ -161,11 +161,11 @@ module _ {cap : ℕ} {st : State} (w : Regular cap st) (s : ℕ) (g : Group) (f 
       still set i h = and-eq-true-iff (has (g .members) i) _ .0 (sym (has-diff (g .members) set i) ∙ h) .0
 
       parted : (set i : ℕ) → has (all-members (st .groups)) i
-          ≡ has (all-members (put s (diff (g .members) set) (drop-hosted (inter (g .members) set) (g .names)) (st .groups))) i || has (inter (g .members) set) i
+          ≡ has (all-members (put s (diff (g .members) set) (kept-names set g) (st .groups))) i || has (inter (g .members) set) i
       parted set i =
           all-found s (st .groups) g (place w s g f) i ∙ split (has (all-members (drop-group s (st .groups))) i) (has (g .members) i) (has set i)
           ∙ sym (ap₂ (λ (x y : Bool). x || y)
-          (all-put s (st .groups) g (place w s g f) (diff (g .members) set) (drop-hosted (inter (g .members) set) (g .names)) i
+          (all-put s (st .groups) g (place w s g f) (diff (g .members) set) (kept-names set g) i
           ∙ ap (λ (x : Bool). has (all-members (drop-group s (st .groups))) i || x) (has-diff (g .members) set i)) (has-inter (g .members) set i))
         where
           split : (a x t : Bool) → a || x ≡ (a || (x && not t)) || (x && t)

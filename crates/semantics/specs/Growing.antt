@@ -11,14 +11,14 @@ use lib.ListN.{length, getD}
 use borrow.Author.Tests.{leb-false}
 use Rattle.nodes.specs.Sets.{node-limit, has, empty, single, union, inter, diff, beyond}
 use Rattle.nodes.specs.Bools.{by-test}
-use Rattle.entries.specs.Entries.{host, lookup, holds-pid, drop-hosted}
+use Rattle.entries.specs.Entries.{host, lookup, holds-pid}
 use Rattle.semantics.specs.Sizes.{group-limit, names-per-group, group-names, links-at}
 use Rattle.semantics.specs.State.{Group, State, with-groups, with-links, with-free, free-of, find, put, add-group, drop-group}
 use Rattle.commands.specs.declared.Command.{Command}
 use Rattle.commands.specs.declared.Command.the-variants.{RegisterName, ReRegisterName, UnregisterName, RegisteredNames, WhereisName, WhereisNameAt, Send, SendName, SendAt, NewSGroup, AddNodes, RemoveNodes, DeleteSGroup, OwnNodes, OwnSGroups}
 use Rattle.semantics.specs.GroupCommands.{GroupCommand, register-name, re-register-name, unregister-name, whereis-name, registered-names, add-nodes, new-s-group}
 use Rattle.semantics.specs.Ranges.{held, bad-group}
-use Rattle.semantics.specs.Steps.{meet, interconnect, leave-free, one-free-group, merge, connect, lot, touched, become-free, Effect, keep, hold, join, create, Outcome, Result, target, as-member, full, name-words, inside, outcome, apply, group-step, ask, send-on, asking, for-member, left-in, rule, step}
+use Rattle.semantics.specs.Steps.{meet, interconnect, leave-free, one-free-group, merge, connect, lot, touched, become-free, Effect, keep, hold, join, create, Outcome, Result, target, as-member, full, name-words, inside, outcome, apply, group-step, ask, send-on, asking, for-member, kept-names, left-in, rule, step}
 use Rattle.semantics.specs.Table.{state-of}
 use Rattle.semantics.specs.Test.{sound}
 use Rattle.semantics.specs.Call.{call}
@@ -181,9 +181,9 @@ send-on-grows i (some p) st = connect-grows i (host p) st
 left-in-few : (s set : ℕ) (g : Group) (gs : List Group) → length (left-in s set g gs) ≤ length gs
 left-in-few s set g gs = go (empty (diff (g .members) set))
   where
-    go : (x : Bool) → length (cond x (drop-group s gs) (put s (diff (g .members) set) (drop-hosted (inter (g .members) set) (g .names)) gs)) ≤ length gs
+    go : (x : Bool) → length (cond x (drop-group s gs) (put s (diff (g .members) set) (kept-names set g) gs)) ≤ length gs
     go true = length-drop-group s gs
-    go false = omega (arith, length-put s (diff (g .members) set) (drop-hosted (inter (g .members) set) (g .names)) gs)
+    go false = omega (arith, length-put s (diff (g .members) set) (kept-names set g) gs)
 
 -- a rule takes no connection away
 rule-grows : (room i : ℕ) (c : Command) (st : State) → Grown st (rule room i c st .next)

@@ -20,7 +20,7 @@ pid-on h k = h * pids-per-host + k
 abbrev pub at-node : ℕ → ℕ → Entry
 at-node h n = record { name = n; pid = pid-on h n }
 
--- four nodes, of which 0, 1 and 2 are connected: the s_group 5 with these members and names, the s_group 6 of node 1 with a name, and the free groups
+-- four nodes, of which 0, 1 and 2 are connected: the s_group 5 with these members and names, the s_group 6 of node 1 with names of 1 and 2, and the free groups
 abbrev pub store : ℕ → List Entry → List ℕ → List ℕ
 store m es = table-of 4 0 (record { name = 5; members = m; names = es } ∷ record { name = 6; members = 2; names = at-node 1 71 ∷ at-node 2 72 ∷ [] } ∷ []) (6 ∷ 5 ∷ 3 ∷ [])
 

@@ -24,7 +24,7 @@ pub mod Within
 pub mod Table
 pub mod Test
 pub mod Call
--- ---- 01 by computation: the marked steps, the sample and the edges, readings that are not ours
+-- ---- 01 by computation: the marked steps, the sample and the edges, readings that are not ours; the edges of names that leave (02)
 pub mod Compute
 pub mod Marked
 pub mod Edges

@@ -263,12 +263,15 @@ abbrev pub for-member : ℕ → Option Group → State → (Group → Result) �
 for-member i none st k = error GroupUnknown st
 for-member i (some g) st k = cond (has (g .members) i) (k g) (error NotMember st)
 
--- the s_groups when the members of g, which is s, that are in the set have left it: each takes along the names whose pid lives on it
--- (02, request 2), and a group left empty is deleted
+-- the names that g keeps when its members in the set leave: each takes along those whose pid lives on it (02, request 2)
+abbrev pub kept-names : ℕ → Group → List Entry
+kept-names set g = drop-hosted (inter (g .members) set) (g .names)
+
+-- the s_groups when the members in the set have left g, which is s: a group left empty is deleted
 abbrev pub left-in : ℕ → ℕ → Group → List Group → List Group
 left-in s set g gs =
     cond (empty (diff (g .members) set)) (drop-group s gs)
-    (put s (diff (g .members) set) (drop-hosted (inter (g .members) set) (g .names)) gs)
+    (put s (diff (g .members) set) (kept-names set g) gs)
 
 -- the nodes of node i's groups: its free normal group; alone, where hidden and free; else those of its s_groups
 abbrev pub own-set : ℕ → State → ℕ

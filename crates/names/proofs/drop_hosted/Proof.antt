@@ -28,7 +28,7 @@ few c =
     let h = hosted-few (counted (a .at) (a .t .now)) (a .set) (c .before .kept .given .0 .0) (take (e - b) (drop b (a .t .now))) (sym (c .before .kept .given .1) ∙ d .drop-hosted .ensures .0) in
     (h .0, omega (arith, long, h .1))
 
--- a sound table counts no more names than its words hold
+-- what is left is a number, or the count was unfit, never both
 fits : {kept : ℕ} {x : Counted} → x ≡ Unfit → x ≡ Of kept → ⊥
 fits u o = let z : _≡_ {A = ℕ} 0 1 = cc in omega arith
 

@@ -7,7 +7,7 @@ use lib.Dec.{eqb, leb}
 use Rattle.answers.specs.declared.Answer.{Answer}
 use Rattle.answers.specs.declared.Value.{Value}
 use Rattle.answers.specs.declared.Reason.{Reason}
-use Rattle.answers.specs.declared.Reason.the-variants.{Done, TableLength, RosterSize, Unsound, CallerUnknown, GroupNameRange, NameZero, NodeUnknown, GroupUnknown, NotMember, NameTaken, PidTaken, NotRegistered, NamespaceFull, CallerOutside, GroupTaken, GroupsFull, RunShort, NoLaunchFile, GroupsDiffer, AtomUnknown}
+use Rattle.answers.specs.declared.Reason.the-variants.{Done, TableLength, RosterSize, Unsound, CallerUnknown, GroupNameRange, NameZero, NodeUnknown, GroupUnknown, NotMember, NameTaken, PidTaken, NotRegistered, NamespaceFull, CallerOutside, GroupTaken, GroupsFull, RunShort, NoLaunchFile, GroupsDiffer, AtomUnknown, HostOutside}
 
 -- the number of a reason
 abbrev pub number : Reason → ℕ
@@ -32,12 +32,14 @@ number RunShort = 17
 number NoLaunchFile = 18
 number GroupsDiffer = 19
 number AtomUnknown = 20
+number HostOutside = 21
 
--- the reasons in the order in which they are tested; Done, where no test holds, stands first
+-- the reasons in the order in which they are tested; Done, where no test holds, stands first, and HostOutside, which is said only where nothing refuses, last
 abbrev pub order : List Reason
 order =
     Done ∷ TableLength ∷ RosterSize ∷ Unsound ∷ CallerUnknown ∷ GroupNameRange ∷ NameZero ∷ NodeUnknown ∷ NoLaunchFile ∷ GroupsDiffer ∷ AtomUnknown
-    ∷ GroupUnknown ∷ NotMember ∷ NameTaken ∷ PidTaken ∷ NotRegistered ∷ NamespaceFull ∷ CallerOutside ∷ GroupTaken ∷ GroupsFull ∷ RunShort ∷ []
+    ∷ GroupUnknown ∷ NotMember ∷ NameTaken ∷ PidTaken ∷ NotRegistered ∷ NamespaceFull ∷ CallerOutside ∷ GroupTaken ∷ GroupsFull ∷ RunShort
+    ∷ HostOutside ∷ []
 
 -- whether a reason is one of 01's own; those of 02 stand out of the order of their numbers
 abbrev pub of-01 : Reason → Bool
@@ -57,9 +59,9 @@ abbrev pub among : Reason → List Reason → Bool
 among r [] = false
 among r (q ∷ qs) = eqb (number q) (number r) || among r qs
 
--- whether a call is refused under a reason: under all but 0
+-- whether a call is refused under a reason: under all but 0 and 21
 abbrev pub refuses : Reason → Bool
-refuses r = not (among r (Done ∷ []))
+refuses r = not (among r (Done ∷ HostOutside ∷ []))
 
 -- whether a reason is tested after the inputs of a command: GroupUnknown is the first of these
 abbrev pub after-inputs : Reason → Bool

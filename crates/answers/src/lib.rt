@@ -45,6 +45,7 @@ pub enum Reason {
     NoLaunchFile,
     GroupsDiffer,
     AtomUnknown,
+    HostOutside,
 }
 
 // What a call answers.
@@ -103,6 +104,7 @@ pub fn number(reason: Reason) -> u32
         Reason::NoLaunchFile => 18,
         Reason::GroupsDiffer => 19,
         Reason::AtomUnknown => 20,
+        Reason::HostOutside => 21,
     }
 }
 

@@ -14,6 +14,15 @@ pub enum Found {
     Unfit,
 }
 
+// What a lookup tells of a name by a set of nodes: its pid, whose host is in the set or outside it; that the name is not held; or that the count
+// is past the end of the run.
+pub enum Seen {
+    Inside(u32),
+    Outside(u32),
+    Absent,
+    Unfit,
+}
+
 // Whether a pid is held, or that the count is past the end of the run.
 pub enum Held {
     Yes,

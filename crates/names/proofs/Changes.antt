@@ -1,6 +1,6 @@
 -- The answers of the namespace functions as the code takes them apart. Assumes nothing.
-use mathlib.Core.Path.{_≡_, refl, ap, subst}
-use mathlib.Core.Bool.{Bool, true, false}
+use mathlib.Core.Path.{_≡_, refl, sym, ap, _∙_, subst}
+use mathlib.Core.Bool.{Bool, true, false, cond}
 use mathlib.Core.Option.{Option, none, some}
 use mathlib.Core.List.{List, [], _∷_}
 use Prim.Native.Nat.{ℕ}
@@ -10,15 +10,23 @@ use types.Run.{OneOf, miss}
 use Rattle.entries.proofs.Change as Change-type
 use Rattle.entries.proofs.Found as Found-type
 use Rattle.entries.proofs.Held as Held-type
-use Rattle.entries.specs.Raw.{yes-no, answer-at}
+use Rattle.entries.proofs.Seen as Seen-type
+use Rattle.nodes.specs.Sets.{has}
+use Rattle.entries.specs.Entries.{host}
+use Rattle.entries.specs.Raw.{yes-no, answer-at, lookup-seen}
 use Rattle.entries.specs.declared.Change.{Change}
 use Rattle.entries.specs.declared.Change.the-variants as change
 use Rattle.entries.specs.declared.Found.{Found}
 use Rattle.entries.specs.declared.Found.the-variants as found-as
 use Rattle.entries.specs.declared.Held.{Held}
 use Rattle.entries.specs.declared.Held.the-variants as held-as
+use Rattle.entries.specs.declared.Seen.{Seen}
+use Rattle.entries.specs.declared.Seen.the-variants as seen-as
+use Rattle.answers.specs.declared.Reason.the-variants.{Done, NotRegistered, HostOutside}
 use Rattle.semantics.specs.Ranges.{held}
+use Rattle.semantics.specs.Steps.{looked, nothing-found}
 use Rattle.names.specs.NamesHere.{changed}
+use Rattle.names.specs.Looked.{pid-found, looked-in}
 
 -- ---- a change
 
@@ -59,6 +67,27 @@ found-some i x (some q) e d = cc
 pub found-none : (i : ℕ) (x : Found) (o : Option ℕ) → x ≡ answer-at i o → OneOf other (tagOf Found-type.the-type x) → o ≡ none
 found-none i x none e k = refl
 found-none i x (some q) e k = absurd (miss other 0 tt (subst (λ (y : Found). OneOf other (tagOf Found-type.the-type y)) e k))
+
+-- ---- a lookup
+
+-- what the namespace tells by the members is what the lookup finds
+pub seen-looked : (members : ℕ) (x : Seen) (o : Option ℕ) → x ≡ lookup-seen members o → looked members o ≡ looked-in x
+seen-looked members x none e = ap looked-in (sym e)
+seen-looked members x (some p) e = go (has members (host p)) ∙ ap looked-in (sym e)
+  where
+    go : (b : Bool) → pid-found p (cond b Done HostOutside) ≡ looked-in (cond b (seen-as.Inside p) (seen-as.Outside p))
+    go true = refl
+    go false = refl
+
+-- the places of the variants that have no pid
+abbrev pidless : List ℕ
+pidless = 2 ∷ 3 ∷ []
+
+pub seen-none : (x : Seen) → OneOf pidless (tagOf Seen-type.the-type x) → looked-in x ≡ nothing-found NotRegistered
+seen-none (seen-as.Inside p) k = absurd (miss pidless 0 tt k)
+seen-none (seen-as.Outside p) k = absurd (miss pidless 1 tt k)
+seen-none seen-as.Absent k = refl
+seen-none seen-as.Unfit k = refl
 
 -- whether it found the name is whether the name is held
 pub found-held : (i : ℕ) {j p : ℕ} (x : Found) (o : Option ℕ) → x ≡ answer-at i o → x ≡ found-as.At j p → held o ≡ true

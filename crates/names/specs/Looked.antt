@@ -1,10 +1,26 @@
--- What a lookup of the code found. Definitions only. Assumes nothing.
+-- What a lookup of the code found, and what a namespace told of the name. Definitions only. Assumes nothing.
 use mathlib.Core.Option.{some}
-use Rattle.semantics.specs.Steps.{Looked, looked, nothing-found}
+use Prim.Native.Nat.{ℕ}
+use Rattle.answers.specs.declared.Reason.{Reason}
+use Rattle.answers.specs.declared.Reason.the-variants.{Done, NotRegistered, HostOutside}
+use Rattle.entries.specs.declared.Seen.{Seen}
+use Rattle.entries.specs.declared.Seen.the-variants.{Inside, Outside, Absent, Unfit}
+use Rattle.semantics.specs.Steps.{Looked, nothing-found}
 use Rattle.names.specs.declared.Lookup.{Lookup}
 use Rattle.names.specs.declared.Lookup.the-variants.{Found, Missing}
 
--- what a lookup found, and why nothing where it didn't
+-- a pid that is found, with the reason beside it
+abbrev pub pid-found : ℕ → Reason → Looked
+pid-found p r = record { found = some p; reason = r }
+
+-- what a lookup found, with its reason
 abbrev pub looked-up : Lookup → Looked
-looked-up (Found p) = looked (some p)
+looked-up (Found p r) = pid-found p r
 looked-up (Missing r) = nothing-found r
+
+-- what the namespace told, by the set of members
+abbrev pub looked-in : Seen → Looked
+looked-in (Inside p) = pid-found p Done
+looked-in (Outside p) = pid-found p HostOutside
+looked-in Absent = nothing-found NotRegistered
+looked-in Unfit = nothing-found NotRegistered

@@ -9,21 +9,21 @@ use lib.ListN.{length, getD, take, drop, set, length-append}
 use lib.Seq.{set-at, set-getD}
 use borrow.Author.Tests.{le-leb, le-ltb, eq-eqb, ne-eqb}
 use Rattle.entries.specs.Entries.{Entry, insert, remove, renew, lookup, rank, holds-pid, drop-hosted, words}
-use Rattle.entries.specs.Raw.{place, found, found-at, answer-at, pid-answer, yes-no, added, dropped, replaced, change-of, hosted-answer, hosted-dropped}
+use Rattle.entries.specs.Raw.{place, found, found-at, answer-at, seen-of, lookup-seen, pid-answer, yes-no, added, dropped, replaced, change-of, hosted-answer, hosted-dropped}
 use Rattle.entries.specs.EntryLaws.{length-insert, length-remove, length-renew, remove-absent}
 use Rattle.entries.specs.NamespaceKept.{length-drop-hosted}
 use Rattle.entries.specs.NamespaceMeaning.{found-words, pid-answer-words, added-words, dropped-words, replaced-words, hosted-answer-words, hosted-dropped-words}
 use Rattle.entries.specs.declared.Change.{Change}
 use Rattle.entries.specs.declared.Change.the-variants as change
 use Rattle.entries.specs.declared.Counted.the-variants as counts
-use Rattle.semantics.specs.Sizes.{group-names, names-per-group, contents-at, bodies-at}
+use Rattle.semantics.specs.Sizes.{group-limit, group-names, names-per-group, contents-at, members-at, bodies-at}
 use Rattle.semantics.specs.State.{Group, State, with-groups}
 use Rattle.semantics.specs.Ranges.{held}
 use Rattle.semantics.specs.Steps.{hold, apply, looked, nothing-found, ask}
 use Rattle.semantics.specs.Regular.{Regular-group, Regular}
-use Rattle.semantics.specs.Places.{no-group, every-iff}
+use Rattle.semantics.specs.Places.{no-group, group-at, members-at-place, every-iff}
 use Rattle.semantics.specs.NamesKept.{not-held}
-use Rattle.semantics.specs.WordsOfState.{Laid}
+use Rattle.semantics.specs.WordsOfState.{Laid, members-word}
 use Rattle.answers.specs.declared.Reason.{Reason}
 use Rattle.answers.specs.declared.Reason.the-variants.{NotRegistered}
 use Rattle.place.specs.Seats.{Seat, Open, Shut, seat-group}
@@ -39,6 +39,10 @@ pub is-held : (o : Option ℕ) → held o ≡ true → (p : ℕ) × (o ≡ some 
 is-held none h = absurd (false≢true h)
 is-held (some p) h = (p, refl)
 
+seen-at : (set i : ℕ) (o : Option ℕ) → seen-of set (answer-at i o) ≡ lookup-seen set o
+seen-at set i none = refl
+seen-at set i (some p) = refl
+
 changed-at : (i : ℕ) (o : Option ℕ) → change-of (answer-at i o) ≡ changed o
 changed-at i none = refl
 changed-at i (some p) = refl
@@ -51,6 +55,13 @@ module _ {st : State} {t : List ℕ} (l : Laid names-per-group st t) (k : ℕ) (
     pub found-here : (n : ℕ) → found (counted k t) n (take (e - b) (drop b t)) ≡ answer-at (rank n (names-at k st)) (lookup n (names-at k st))
     found-here n =
         rw (count-is, own-words l k (w .below) b e eb ee) (found-words names-per-group (st .size) n (names-at k st) (w .regular .names-sound))
+
+    -- and told by the members
+    pub seen-here : (n : ℕ) → k < group-limit
+        → seen-of (getD t (members-at + k) 0) (found (counted k t) n (take (e - b) (drop b t))) ≡ lookup-seen (group-at (st .groups) k .members) (lookup n (names-at k st))
+    seen-here n h =
+        rw (members-word l k h ∙ members-at-place (st .groups) k)
+        (ap (seen-of _) (found-here n) ∙ seen-at _ (rank n (names-at k st)) (lookup n (names-at k st)))
 
     pub changed-here : (n : ℕ) → change-of (found (counted k t) n (take (e - b) (drop b t))) ≡ changed (lookup n (names-at k st))
     changed-here n = ap change-of (found-here n) ∙ changed-at (rank n (names-at k st)) (lookup n (names-at k st))
@@ -157,5 +168,5 @@ ask-zero i s n st h = rw (eq-eqb s 0)
 pub ask-denied : (i s n : ℕ) (st : State) {r : Reason} → (s ≡ 0 → ⊥) → Shut i s (st .groups) r → ask i s n st ≡ nothing-found r
 ask-denied i s n st h d = rw (ne-eqb s 0) (d .lookups n)
 
-pub ask-open : (i s n k : ℕ) (st : State) → (s ≡ 0 → ⊥) → Open i s k (st .groups) → ask i s n st ≡ looked (lookup n (names-at k st))
-ask-open i s n k st h o = rw (ne-eqb s 0, o .seat .finds, o .member) (ap (λ (ns : List Entry). looked (lookup n ns)) (sym (names-of st (o .seat))))
+pub ask-open : (i s n k : ℕ) (st : State) → (s ≡ 0 → ⊥) → Open i s k (st .groups) → ask i s n st ≡ looked (group-at (st .groups) k .members) (lookup n (names-at k st))
+ask-open i s n k st h o = rw (ne-eqb s 0, o .seat .finds, o .member) (ap (λ (g : Group). looked (g .members) (lookup n (g .names))) (sym (seat-group (o .seat))))

@@ -4,9 +4,11 @@ use entries::Change;
 use entries::Counted;
 use entries::Found;
 use entries::Held;
+use entries::Seen;
 use layout::BODIES_AT;
 use layout::CONTENTS_AT;
 use layout::GROUP_NAMES;
+use layout::MEMBERS_AT;
 use layout::NAMES_PER_GROUP;
 use place::Access;
 use place::place_for;
@@ -16,11 +18,12 @@ ghost use mathlib.Core.Option.{none};
 ghost use Prim.Native.Nat.{_<_};
 ghost use lib.ListN.{length};
 ghost use Rattle.entries.specs.Entries.{insert, remove, renew, lookup, rank, holds-pid, drop-hosted};
-ghost use Rattle.entries.specs.Raw.{answer-at};
+ghost use Rattle.entries.specs.Raw.{answer-at, lookup-seen};
 ghost use Rattle.semantics.specs.Sizes.{group-limit, names-per-group, table-words};
 ghost use Rattle.semantics.specs.State.{State};
 ghost use Rattle.semantics.specs.Ranges.{held};
 ghost use Rattle.semantics.specs.Steps.{ask};
+ghost use Rattle.semantics.specs.Places.{group-at};
 ghost use Rattle.semantics.specs.Table.{state-of};
 ghost use Rattle.semantics.specs.Test.{sound};
 ghost use Rattle.semantics.specs.WordsOfState.{Laid};
@@ -46,6 +49,19 @@ pub fn find_name(t: &[u64], at: usize, n: u32) -> Found
     let start = BODIES_AT + NAMES_PER_GROUP * at;
     let end = start + NAMES_PER_GROUP;
     search::find(&t[start..end], count, n)
+}
+
+// The pid of the name, and whether its host is a member.
+pub fn look_up(t: &[u64], at: usize, n: u32) -> Seen
+    requires { ⌜ length (now t) ≡ table-words names-per-group ⌝ }
+    requires { ⌜ at < group-limit ⌝ }
+    ensures { λ r. ⌜ ((st : State) → Laid names-per-group st (now (t .entry)) → Standing at st → r ≡ lookup-seen (group-at (st .groups) at .members) (lookup n (names-at at st))) ⌝ }
+{
+    let count = (t[CONTENTS_AT + at] / GROUP_NAMES) as usize;
+    let members = t[MEMBERS_AT + at];
+    let start = BODIES_AT + NAMES_PER_GROUP * at;
+    let end = start + NAMES_PER_GROUP;
+    search::look_up(&t[start..end], count, n, members)
 }
 
 // Whether the pid stands under some name.
@@ -132,9 +148,9 @@ pub fn drop_hosted(t: &mut [u64], at: usize, set: u64)
     }
 }
 
-// What a lookup finds: the pid, or why there is none.
+// What a lookup finds: the pid and the reason beside it, or why there is none.
 pub enum Lookup {
-    Found(u32),
+    Found(u32, Reason),
     Missing(Reason),
 }
 
@@ -148,8 +164,9 @@ pub fn look(t: &[u64], node: u32, s: u32, n: u32) -> Lookup
         return Lookup::Missing(Reason::NotRegistered);
     }
     match place_for(t, node, s) {
-        Access::Member(at) => match find_name(t, at, n) {
-            Found::At(_, p) => Lookup::Found(p),
+        Access::Member(at) => match look_up(t, at, n) {
+            Seen::Inside(p) => Lookup::Found(p, Reason::Done),
+            Seen::Outside(p) => Lookup::Found(p, Reason::HostOutside),
             _ => Lookup::Missing(Reason::NotRegistered),
         },
         Access::Denied(r) => Lookup::Missing(r),

@@ -15,13 +15,13 @@ use Rattle.semantics.specs.FirstReason.{Test, first, opening-tests}
 use Rattle.commands.specs.declared.Command.{Command}
 use Rattle.commands.specs.declared.Command.the-variants.{RegisterName, ReRegisterName, UnregisterName, RegisteredNames, WhereisName, WhereisNameAt, Send, SendName, SendAt, NewSGroup, AddNodes, RemoveNodes, DeleteSGroup, OwnNodes, OwnSGroups}
 use Rattle.answers.specs.declared.Reason.{Reason}
-use Rattle.answers.specs.declared.Reason.the-variants.{Done, TableLength, RosterSize, Unsound, CallerUnknown, GroupNameRange, NameZero, NodeUnknown, GroupUnknown, NotMember, NameTaken, PidTaken, NotRegistered, NamespaceFull, CallerOutside, GroupTaken, GroupsFull, RunShort, NoLaunchFile, GroupsDiffer, AtomUnknown}
+use Rattle.answers.specs.declared.Reason.the-variants.{Done, TableLength, RosterSize, Unsound, CallerUnknown, GroupNameRange, NameZero, NodeUnknown, GroupUnknown, NotMember, NameTaken, PidTaken, NotRegistered, NamespaceFull, CallerOutside, GroupTaken, GroupsFull, RunShort, NoLaunchFile, GroupsDiffer, AtomUnknown, HostOutside}
 use Rattle.published.specs.Published.{Published}
 use Rattle.published.specs.Refusals.{Lowest, tests}
 
 -- ---- ranks
 
--- how many reasons of 02 are tested before the reason of 01 with this number: the three of launching, behind 7
+-- how many reasons of 02 are tested before the reason of 01 with this number: the three of launching, behind 7 (21 is behind all)
 earlier : ℕ → ℕ
 earlier k = cond (ltb (number NodeUnknown) k) 3 0
 
@@ -49,6 +49,7 @@ rank-is RunShort h = refl
 rank-is NoLaunchFile h = absurd (false≢true h)
 rank-is GroupsDiffer h = absurd (false≢true h)
 rank-is AtomUnknown h = absurd (false≢true h)
+rank-is HostOutside h = absurd (false≢true h)
 
 rises : (a b : ℕ) → (earlier a + a < earlier b + b) ↔ (a < b)
 unfolding earlier

@@ -128,9 +128,9 @@ module _ {cap : ℕ} (st : State) (w : Regular cap st) (room G i s : ℕ) where
       (λ e h. record { state = hold-seen st s g f _ _ (remove-seen n (g .names) (names-up g f)); said-is = refl })
       (λ e. kept st s i True NotRegistered P.True refl)
 
-  looks : (o : Option ℕ) → Agrees (settled (say (W.pid-or-undefined o) (look-reason o))) (gives (of-some P.Undefined P.Pid o) (published st))
-  looks none = kept st s i _ NotRegistered P.Undefined refl
-  looks (some p) = kept st s i _ Done (P.Pid p) refl
+  looks : (m : ℕ) (o : Option ℕ) → Agrees (settled (say (W.pid-or-undefined o) (look-reason m o))) (gives (of-some P.Undefined P.Pid o) (published st))
+  looks m none = kept st s i _ NotRegistered P.Undefined refl
+  looks m (some p) = kept st s i _ _ (P.Pid p) refl
 
   pub looks-up : (n : ℕ) → eqb s 0 ≡ false
       → Agrees (settled (inside room (st .size) G i (whereis-name s n) (find s (st .groups)))) (transition (WhereisName s n) i (published st))
@@ -138,14 +138,14 @@ module _ {cap : ℕ} (st : State) (w : Regular cap st) (room G i s : ℕ) where
   looks-up n named =
       by-refusal settled (eqb n 0) (say Error NameZero) _ _ refl λ x. rw named (go (find s (st .groups)))
     where
-      inner : (g : Group) (x : Bool) → Agrees (settled (cond x (say (W.pid-or-undefined (lookup n (g .names))) (look-reason (lookup n (g .names))))
+      inner : (g : Group) (x : Bool) → Agrees (settled (cond x (say (W.pid-or-undefined (lookup n (g .names))) (look-reason (g .members) (lookup n (g .names))))
           (say Undefined NotMember)))
           (gives (of-some P.Undefined P.Pid (cond x (cond x (lookup n (g .names)) none) none)) (published st))
-      inner g true = looks (lookup n (g .names))
+      inner g true = looks (g .members) (lookup n (g .names))
       inner g false = kept st s i Undefined _ P.Undefined refl
 
       go : (o : Option Group) → Agrees (settled (W.as-member i Undefined o
-          (λ g. say (W.pid-or-undefined (lookup n (g .names))) (look-reason (lookup n (g .names))))))
+          (λ g. say (W.pid-or-undefined (lookup n (g .names))) (look-reason (g .members) (lookup n (g .names))))))
           (gives (of-some P.Undefined P.Pid
           (cond (member i (on-some seen o)) (of-some none (λ g. cond (g .nodes i) (g .namespace n) none) (on-some seen o)) none)) (published st))
       go none = kept st s i Undefined _ P.Undefined refl

@@ -4,7 +4,7 @@ use mathlib.Core.Path.{_≡_, refl, sym, ap, ap₂, _∙_, subst, fun-ext}
 use mathlib.Core.Logic.{⊎-elim}
 use mathlib.Core.Bool.{Bool, true, false, not, _&&_, cond, true≢false, false≢true}
 use mathlib.Core.Option.{Option, none, some}
-use mathlib.Core.List.{List, [], _∷_}
+use mathlib.Core.List.{List, [], _∷_, _++_}
 use Prim.Native.Nat.{ℕ, _^_, _≤_, _<_}
 use native.Mathlib.Omega.{arith}
 use lib.Dec.{eqb, ltb, leb}
@@ -26,15 +26,15 @@ use Rattle.semantics.specs.Steps.{Result, Outcome, Effect, error, say, done, se
 use Rattle.answers.specs.declared.Value.{Value}
 use Rattle.answers.specs.declared.Value.the-variants.{True, False, Error, Undefined, Listed}
 use Rattle.answers.specs.declared.Reason.{Reason}
-use Rattle.answers.specs.declared.Reason.the-variants.{Done, CallerUnknown, GroupNameRange, NameZero, NodeUnknown, GroupUnknown, NotMember, NameTaken, PidTaken, NotRegistered, NamespaceFull, CallerOutside, GroupTaken, GroupsFull, RunShort}
+use Rattle.answers.specs.declared.Reason.the-variants.{Done, CallerUnknown, GroupNameRange, NameZero, NodeUnknown, GroupUnknown, NotMember, NameTaken, PidTaken, NotRegistered, NamespaceFull, CallerOutside, GroupTaken, GroupsFull, RunShort, HostOutside}
 use Rattle.semantics.specs.Regular.{Rising, Regular}
 use Rattle.semantics.specs.Truth.{neither}
 use Rattle.semantics.specs.Within.{step-within}
 use Rattle.semantics.specs.Fits.{Fits}
 use Rattle.semantics.specs.Changed.{regular-found}
-use Rattle.published.specs.Published.{of-some, any, SGroup, Namespace, gives, has-pid, transition}
+use Rattle.published.specs.Published.{Set, of-some, any, SGroup, Namespace, gives, has-pid, transition}
 use Rattle.published.specs.SeenState.{seen, published, said, how-many}
-use Rattle.published.specs.Refusals.{off-roster, strays, names-in, full, run-short, tests-set, tests-at, tests, ruled, refusal}
+use Rattle.published.specs.Refusals.{off-roster, strays, names-in, full, run-short, tests-set, tests-at, tests-host, tests, ruled, refusal}
 use Rattle.published.specs.SomeBelow.{any-beyond}
 use Rattle.published.specs.GroupsSeen.{on-some, member, groups-seen, roster-seen, count-groups}
 use Rattle.published.specs.NamesSeen.{pid-seen, count-names, words-seen}
@@ -142,14 +142,28 @@ module _ {cap : ℕ} (st : State) (w : Regular cap st) (s : ℕ) (g : Group) (f 
 
 -- ---- the seven that name one s_group
 
-looked-up : (st : State) (s : ℕ) (o o′ : Option ℕ) → o′ ≡ o → Told (settle s (say (W.pid-or-undefined o) (look-reason o)) st)
-    (NotRegistered when not (held o′) ∷ []) st
-looked-up st s o o′ e = subst (λ (z : Option ℕ). Told (settle s (say (W.pid-or-undefined o) (look-reason o)) st)
-    (NotRegistered when not (held z) ∷ []) st) (sym e) (go o)
+-- the last two tests of a lookup that found o in an s_group of these nodes
+abbrev found-tests : Set → Option ℕ → List Test
+found-tests nodes o = NotRegistered when not (held o) ∷ HostOutside when of-some false (λ p. not (nodes (host p))) o ∷ []
+
+-- the reason of a lookup by a member is the first of these that holds, and 000 has a rule for it
+found-why : (m : ℕ) (o : Option ℕ) → (look-reason m o ≡ first (found-tests (has m) o)) × (ruled (first (found-tests (has m) o)) ≡ true)
+found-why m none = (refl, refl)
+found-why m (some p) = go (has m (host p))
   where
-    go : (o : Option ℕ) → Told (settle s (say (W.pid-or-undefined o) (look-reason o)) st) (NotRegistered when not (held o) ∷ []) st
-    go none = record { why = mild st _ NotRegistered refl refl }
-    go (some p) = record { why = mild st _ Done refl refl }
+    go : (x : Bool) → (cond x Done HostOutside ≡ cond (not x) HostOutside Done) × (ruled (cond (not x) HostOutside Done) ≡ true)
+    go true = (refl, refl)
+    go false = (refl, refl)
+
+looked-up : (st : State) (s n : ℕ) (g : Group) → find s (st .groups) ≡ some g
+    → Told (settle s (say (W.pid-or-undefined (lookup n (g .names))) (look-reason (g .members) (lookup n (g .names)))) st)
+    (NotRegistered when not (held (names-in s (published st) n)) ∷ tests-host s n (published st)) st
+unfolding published
+looked-up st s n g f =
+    let why = found-why (g .members) (lookup n (g .names)) in
+    subst (λ (ts : List Test). Told (settle s (say (W.pid-or-undefined (lookup n (g .names))) (look-reason (g .members) (lookup n (g .names)))) st) ts st)
+    (sym (ap (λ (o : Option Group). found-tests (λ i. member i (on-some seen o)) (of-some none (λ h. h .namespace n) (on-some seen o))) f))
+    (record { why = mild st _ _ (why .0) (why .1) })
 
 unregistered : (st : State) (s : ℕ) (e : Effect) (x y : Bool) → y ≡ x
     → Told (settle s (cond x (done e True) (say True NotRegistered)) st) (NotRegistered when not y ∷ []) st
@@ -211,8 +225,8 @@ told-within room i (unregister-name s n) st w fits =
 told-within room i (whereis-name s n) st w fits =
     begin room i s st w _ _ λ q.
     or-error st s (eqb n 0) _ NameZero _ _ refl refl λ x.
-    by-member st s i Undefined (find s (st .groups)) (λ g. say (W.pid-or-undefined (lookup n (g .names))) (look-reason (lookup n (g .names)))) _ λ g f m.
-    looked-up st s (lookup n (g .names)) _ (names-are st w s g f n)
+    by-member st s i Undefined (find s (st .groups)) (λ g. say (W.pid-or-undefined (lookup n (g .names))) (look-reason (g .members) (lookup n (g .names)))) _ λ g f m.
+    looked-up st s n g f
 told-within room i (registered-names s) st w fits =
     begin room i s st w _ _ λ q.
     by-member st s i (Listed 0) (find s (st .groups)) (λ g. W.listed room (W.name-words s (g .names))) _ λ g f m.
@@ -240,11 +254,11 @@ unfolding find
 find-zero b [] r = refl
 find-zero b (g ∷ gs) r = rw (ne-eqb (g .name) 0 (λ e. omega (arith, r .0))) (find-zero (g .name) gs (r .1))
 
--- the last three tests of a lookup by j
+-- the last four tests of a lookup by j
 abbrev look-tests : Bool → ℕ → ℕ → Option SGroup → List Test
 look-tests zero j n o =
     GroupUnknown when (not zero && not (held o)) ∷ NotMember when (not zero && not (member j o))
-    ∷ NotRegistered when not (held (of-some none (λ g. g .namespace n) o)) ∷ []
+    ∷ found-tests (λ i. member i o) (of-some none (λ g. g .namespace n) o)
 
 -- the reason of a lookup is the first of these that holds, and 000 has a rule for it
 record Why (l : W.Looked) (ts : List Test) : Type 0 where
@@ -253,13 +267,12 @@ record Why (l : W.Looked) (ts : List Test) : Type 0 where
 
 look-why : (j n : ℕ) (o : Option Group) → Why (look-in j n o) (look-tests false j n (on-some seen o))
 look-why j n none = record { reason-is = refl; has-rule = refl }
-look-why j n (some g) = inner (has (g .members) j) (lookup n (g .names))
+look-why j n (some g) = inner (has (g .members) j)
   where
-    inner : (x : Bool) (o : Option ℕ) → Why (cond x (W.looked o) (W.nothing-found NotMember))
-        (GroupUnknown when false ∷ NotMember when not x ∷ NotRegistered when not (held o) ∷ [])
-    inner true none = record { reason-is = refl; has-rule = refl }
-    inner true (some p) = record { reason-is = refl; has-rule = refl }
-    inner false o = record { reason-is = refl; has-rule = refl }
+    inner : (x : Bool) → Why (cond x (W.looked (g .members) (lookup n (g .names))) (W.nothing-found NotMember))
+        (GroupUnknown when false ∷ NotMember when not x ∷ found-tests (has (g .members)) (lookup n (g .names)))
+    inner true = let why = found-why (g .members) (lookup n (g .names)) in record { reason-is = why .0; has-rule = why .1 }
+    inner false = record { reason-is = refl; has-rule = refl }
 
 ask-why : {cap : ℕ} (st : State) → Regular cap st → (j s n : ℕ) → Why (ask j s n st) (look-tests (eqb s 0) j n (groups-seen (st .groups) s))
 ask-why st w j s n = go (eqb s 0) refl
@@ -282,7 +295,7 @@ module _ {cap : ℕ} (st : State) (w : Regular cap st) (i : ℕ) where
 
   -- a lookup by j, whatever state it leaves
   told-at : (j s n : ℕ) (u : State)
-      → Told (cond (leb (st .size) i) (error CallerUnknown st) (W.asking j s n st (tell (ask j s n st) u))) (tests-at j s n i (published st)) st
+      → Told (cond (leb (st .size) i) (error CallerUnknown st) (W.asking j s n st (tell (ask j s n st) u))) (tests-at j s n i (published st) ++ tests-host s n (published st)) st
   unfolding published
   told-at j s n u =
       from-roster _ _

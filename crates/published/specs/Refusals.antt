@@ -1,9 +1,9 @@
--- 01's reasons over the published state, and the whole answer: the lowest reason that holds, then 01's refusal or 000's rule. Assumes nothing.
+-- 01's reasons over the published state, with 02's for strangers, and the whole answer: the lowest reason that holds, then 01's refusal or 000's rule. Assumes nothing.
 use mathlib.Core.Path.{_≡_}
 use mathlib.Core.Logic.{_⊎_}
 use mathlib.Core.Bool.{Bool, true, false, not, _&&_, _||_, cond}
 use mathlib.Core.Option.{none}
-use mathlib.Core.List.{List, [], _∷_, List·Memᴰ}
+use mathlib.Core.List.{List, [], _∷_, _++_, List·Memᴰ}
 use Prim.Native.Nat.{ℕ, _≤_}
 use lib.Dec.{eqb, ltb, leb}
 use lib.ListN.{length}
@@ -17,7 +17,7 @@ use Rattle.semantics.specs.Ranges.{held, bad-group}
 use Rattle.semantics.specs.FirstReason.{Test, _when_, first}
 use Rattle.answers.specs.declared.Answer.{Answer}
 use Rattle.answers.specs.declared.Reason.{Reason}
-use Rattle.answers.specs.declared.Reason.the-variants.{Done, CallerUnknown, GroupNameRange, NameZero, NodeUnknown, GroupUnknown, NotMember, NameTaken, PidTaken, NotRegistered, NamespaceFull, CallerOutside, GroupTaken, GroupsFull, RunShort}
+use Rattle.answers.specs.declared.Reason.the-variants.{Done, CallerUnknown, GroupNameRange, NameZero, NodeUnknown, GroupUnknown, NotMember, NameTaken, PidTaken, NotRegistered, NamespaceFull, CallerOutside, GroupTaken, GroupsFull, RunShort, HostOutside}
 use Rattle.published.specs.Published.{Set, of-some, any, Namespace, Published, IsSGroupSNode, has-pid, Value, False, Error, Step, gives, transition}
 use Rattle.published.specs.Seen.{how-many, said}
 
@@ -47,6 +47,10 @@ names-in s X n = of-some none (λ g. g .namespace n) (X .grs s)
 abbrev pub full : ℕ → Published → Bool
 full s X = leb names-per-group (how-many half-word (λ n. held (names-in s X n)))
 
+-- n stands in s for a pid whose host is not a member of s (02, request 3)
+abbrev pub stranger : ℕ → ℕ → Published → Bool
+stranger s n X = of-some false (λ p. outsider (host p) s X) (names-in s X n)
+
 -- the run for a list has fewer words than the list that 000's rule gives
 abbrev pub run-short : ℕ → Step → Bool
 run-short room q = ltb room (length (said (q .value) .1))
@@ -71,6 +75,10 @@ tests-at ni′ s n ni X =
     ∷ GroupUnknown when (not (eqb s 0) && unknown s X) ∷ NotMember when (not (eqb s 0) && outsider ni′ s X)
     ∷ NotRegistered when not (held (names-in s X n)) ∷ []
 
+-- the four lookups have one reason more, which refuses nothing: it stands beside the pid where no other holds
+abbrev pub tests-host : ℕ → ℕ → Published → List Test
+tests-host s n X = HostOutside when stranger s n X ∷ []
+
 -- add_nodes and remove_nodes
 abbrev pub tests-set : ℕ → ℕ → ℕ → Published → List Test
 tests-set s set ni X =
@@ -88,7 +96,7 @@ tests room (ReRegisterName s n p) ni X =
     ∷ GroupUnknown when unknown s X ∷ NotMember when outsider ni s X ∷ PidTaken when has-pid p (names-in s X)
     ∷ NamespaceFull when (not (held (names-in s X n)) && full s X) ∷ []
 tests room (UnregisterName s n) ni X = tests-name s n ni X
-tests room (WhereisName s n) ni X = tests-name s n ni X
+tests room (WhereisName s n) ni X = tests-name s n ni X ++ tests-host s n X
 tests room (RegisteredNames s) ni X =
     CallerUnknown when off-roster ni X ∷ GroupNameRange when bad-group s ∷ GroupUnknown when unknown s X ∷ NotMember when outsider ni s X
     ∷ RunShort when run-short room (transition (RegisteredNames s) ni X) ∷ []
@@ -97,10 +105,10 @@ tests room (NewSGroup s set) ni X =
     CallerUnknown when off-roster ni X ∷ GroupNameRange when bad-group s ∷ NodeUnknown when strays (has set) X
     ∷ CallerOutside when not (has set ni) ∷ GroupTaken when held (X .grs s)
     ∷ GroupsFull when leb group-limit (how-many group-names (λ t. held (X .grs t))) ∷ []
-tests room (WhereisNameAt ni′ s n) ni X = tests-at ni′ s n ni X
-tests room (SendAt ni′ s n) ni X = tests-at ni′ s n ni X
+tests room (WhereisNameAt ni′ s n) ni X = tests-at ni′ s n ni X ++ tests-host s n X
+tests room (SendAt ni′ s n) ni X = tests-at ni′ s n ni X ++ tests-host s n X
 tests room (Send p) ni X = CallerUnknown when off-roster ni X ∷ NodeUnknown when off-roster (host p) X ∷ []
-tests room (SendName s n) ni X = tests-name s n ni X
+tests room (SendName s n) ni X = tests-name s n ni X ++ tests-host s n X
 tests room (RemoveNodes s set) ni X = tests-set s set ni X
 tests room (DeleteSGroup s) ni X =
     CallerUnknown when off-roster ni X ∷ GroupNameRange when bad-group s ∷ GroupUnknown when unknown s X ∷ NotMember when outsider ni s X ∷ []

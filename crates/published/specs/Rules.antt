@@ -22,13 +22,12 @@ use Rattle.answers.specs.declared.Reason.{Reason}
 use Rattle.answers.specs.declared.Reason.the-variants.{CallerUnknown, GroupNameRange, NameZero, NodeUnknown, NotMember, NotRegistered, RunShort}
 use Rattle.semantics.specs.Regular.{Regular}
 use Rattle.semantics.specs.Truth.{neither}
-use Rattle.semantics.specs.NamesKept.{host-found}
-use Rattle.semantics.specs.Changed.{regular-found}
+use Rattle.semantics.specs.Lookups.{host-asked}
 use Rattle.semantics.specs.Connected.{regular-connect, size-connect}
 use Rattle.published.specs.Published as P
 use Rattle.published.specs.Published.{of-some, FindName, found-by, then-send, AddConnections, transition}
 use Rattle.published.specs.SeenState.{seen, published, said, listed}
-use Rattle.published.specs.GroupsSeen.{on-some, member, groups-seen, nothing-there}
+use Rattle.published.specs.GroupsSeen.{on-some, member, groups-seen}
 use Rattle.published.specs.Follows.{Follows, Agrees, by-refusal, for-one}
 use Rattle.published.specs.NamingRules.{registers, re-registers, unregisters, looks-up, lists}
 use Rattle.published.specs.Joining.{adds, creates}
@@ -56,15 +55,15 @@ module _ (st : State) (j s n : ℕ) where
   find-seen : FindName j s n (groups-seen (st .groups)) ≡ ask j s n st .found
   find-seen = go (eqb s 0) (find s (st .groups))
     where
-      inner : (x : Bool) (o : Option ℕ) → cond x o none ≡ (cond x (W.looked o) (W.nothing-found NotMember)) .found
-      inner true o = refl
-      inner false o = refl
+      inner : (x : Bool) (m : ℕ) (o : Option ℕ) → cond x o none ≡ (cond x (W.looked m o) (W.nothing-found NotMember)) .found
+      inner true m o = refl
+      inner false m o = refl
 
       go : (x : Bool) (o : Option Group) → cond x none (of-some none (λ g. cond (g .nodes j) (g .namespace n) none) (on-some seen o))
           ≡ (cond x (W.nothing-found NotRegistered) (W.look-in j n o)) .found
       go true o = refl
       go false none = refl
-      go false (some g) = inner (has (g .members) j) (lookup n (g .names))
+      go false (some g) = inner (has (g .members) j) (g .members) (lookup n (g .names))
 
   -- what whereis_name/2 finds: for who is not a member, FindName finds nothing
   found-by-seen : found-by j s n (groups-seen (st .groups)) ≡ ask j s n st .found
@@ -84,21 +83,6 @@ module _ (st : State) (j s n : ℕ) where
       same true o = none-in (member j (on-some seen o))
       same false none = refl
       same false (some g) = inner (has (g .members) j) (lookup n (g .names))
-
--- a pid that is found has its host on the roster
-hosted : {cap : ℕ} {st : State} → Regular cap st → (j s n p : ℕ) → ask j s n st .found ≡ some p → host p < st .size
-hosted {st = st} w j s n p = go (eqb s 0) (find s (st .groups)) refl
-  where
-    inner : (x : Bool) (g : Group) → find s (st .groups) ≡ some g → (cond x (W.looked (lookup n (g .names))) (W.nothing-found NotMember)) .found ≡ some p
-        → host p < st .size
-    inner true g f q = host-found (st .size) n p (g .names) (regular-found w s g f .names-sound .hosts) q
-    inner false g f q = nothing-there q
-
-    go : (x : Bool) (o : Option Group) → find s (st .groups) ≡ o → (cond x (W.nothing-found NotRegistered) (W.look-in j n o)) .found ≡ some p
-        → host p < st .size
-    go true o f q = nothing-there q
-    go false none f q = nothing-there q
-    go false (some g) f q = inner (has (g .members) j) g f q
 
 pid-said : (o : Option ℕ) → said (of-some P.Undefined P.Pid o) ≡ (W.pid-or-undefined o, [])
 pid-said none = refl
@@ -147,7 +131,7 @@ agree-rule room i (SendAt j s n) st w h =
     subst (λ (q : P.Step). Follows (tell (ask j s n st) (send-on i (ask j s n st .found) (connect i j st))) q)
     (ap (then-send i (ask j s n st .found)) (connects st w i j h j-in)
     ∙ ap (λ (o : Option ℕ). then-send i o (AddConnections i j (published st))) (sym (find-seen st j s n)))
-    (sends (connect i j st) (regular-connect w i j h j-in) i (rw (size-connect i j st) h) (ask j s n st .found) (rw (size-connect i j st) (hosted w j s n)) _)
+    (sends (connect i j st) (regular-connect w i j h j-in) i (rw (size-connect i j st) h) (ask j s n st .found) (rw (size-connect i j st) (host-asked w j s n)) _)
 agree-rule room i (Send p) st w h =
     by-refusal itself (leb (st .size) (host p)) (error NodeUnknown st) _ _ refl λ x k.
     record { state = connects st w i (host p) h (leb-false (st .size) (host p) x); said-is = refl }
@@ -155,7 +139,7 @@ agree-rule room i (SendName s n) st w h =
     by-refusal itself (bad-group s) (error GroupNameRange st) _ _ refl λ x.
     by-refusal itself (eqb n 0) (error NameZero st) _ _ refl λ y k.
     subst (λ (o : Option ℕ). Follows (tell (ask i s n st) (send-on i (ask i s n st .found) st)) (then-send i o (published st))) (sym (found-by-seen st i s n))
-    (sends st w i h (ask i s n st .found) (hosted w i s n) _)
+    (sends st w i h (ask i s n st .found) (host-asked w i s n) _)
 agree-rule room i (RemoveNodes s set) st w h =
     by-refusal itself (bad-group s) (error GroupNameRange st) _ _ refl λ x.
     by-refusal itself (beyond set (st .size)) (error NodeUnknown st) _ _ refl λ y.

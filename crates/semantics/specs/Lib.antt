@@ -44,6 +44,7 @@ pub mod Merged
 pub mod Connected
 pub mod Freed
 pub mod NamesKept
+pub mod Lookups
 pub mod StepsKeep
 pub mod OpenedRegular
 -- ---- the words of a state: lists in parts and sections, bodies, one s_group and one entry in the words

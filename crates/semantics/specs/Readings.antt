@@ -146,7 +146,7 @@ abbrev pub name-first : ℕ → ℕ → Option Group → Looked
 name-first i n none = nothing-found GroupUnknown
 name-first i n (some g) =
     cond (held (lookup n (g .names)))
-    (cond (has (g .members) i) (looked (lookup n (g .names))) (nothing-found NotMember))
+    (cond (has (g .members) i) (looked (g .members) (lookup n (g .names))) (nothing-found NotMember))
     (nothing-found NotRegistered)
 
 -- the answers of whereis_name/2 in the s_group 5 to node 2, for each of the names, on the table after M10: ours, and the wrong reading's

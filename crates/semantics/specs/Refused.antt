@@ -29,7 +29,7 @@ use Rattle.semantics.specs.Call.{refused, call, opening}
 use Rattle.semantics.specs.Calls.{why, call-sound, call-unsound}
 use Rattle.answers.specs.declared.Value.{Value}
 use Rattle.answers.specs.declared.Reason.{Reason}
-use Rattle.answers.specs.declared.Reason.the-variants.{TableLength, Unsound}
+use Rattle.answers.specs.declared.Reason.the-variants.{Done, TableLength, Unsound, HostOutside}
 
 -- ---- commands that name one s_group
 
@@ -78,13 +78,18 @@ l-if : (x : Bool) (a b : Looked) → Silent a → Silent b → Silent (cond x a 
 l-if true a b p q = p
 l-if false a b p q = q
 
-l-found : (o : Option ℕ) → Silent (looked o)
-l-found none = λ n. (refl, refl)
-l-found (some p) = λ n. absurd (false≢true n)
+-- beside a pid no reason refuses
+l-pid : (x : Bool) → refuses (cond x Done HostOutside) ≡ false
+l-pid true = refl
+l-pid false = refl
+
+l-found : (m : ℕ) (o : Option ℕ) → Silent (looked m o)
+l-found m none = λ n. (refl, refl)
+l-found m (some p) = λ n. absurd (false≢true (sym (l-pid (has m (host p))) ∙ n))
 
 l-in : (i n : ℕ) (o : Option Group) → Silent (look-in i n o)
 l-in i n none = λ x. (refl, refl)
-l-in i n (some g) = l-if (has (g .members) i) _ _ (l-found (lookup n (g .names))) (λ x. (refl, refl))
+l-in i n (some g) = l-if (has (g .members) i) _ _ (l-found (g .members) (lookup n (g .names))) (λ x. (refl, refl))
 
 l-ask : (i s n : ℕ) (st : State) → Silent (ask i s n st)
 l-ask i s n st = l-if (eqb s 0) _ _ (λ x. (refl, refl)) (l-in i n (find s (st .groups)))

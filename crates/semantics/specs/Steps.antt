@@ -20,7 +20,7 @@ use Rattle.answers.specs.declared.Answer.{Answer}
 use Rattle.answers.specs.declared.Value.{Value}
 use Rattle.answers.specs.declared.Value.the-variants.{True, False, Error, Undefined, Pid, Grouped, Nodes, Listed}
 use Rattle.answers.specs.declared.Reason.{Reason}
-use Rattle.answers.specs.declared.Reason.the-variants.{Done, CallerUnknown, GroupNameRange, NameZero, NodeUnknown, GroupUnknown, NotMember, NameTaken, PidTaken, NotRegistered, NamespaceFull, CallerOutside, GroupTaken, GroupsFull, RunShort}
+use Rattle.answers.specs.declared.Reason.the-variants.{Done, CallerUnknown, GroupNameRange, NameZero, NodeUnknown, GroupUnknown, NotMember, NameTaken, PidTaken, NotRegistered, NamespaceFull, CallerOutside, GroupTaken, GroupsFull, RunShort, HostOutside}
 
 -- ---- connections and free groups, word by word
 
@@ -142,10 +142,10 @@ abbrev pub pid-or-undefined : Option ℕ → Value
 pid-or-undefined none = Undefined
 pid-or-undefined (some p) = Pid p
 
--- and its reason
-abbrev pub look-reason : Option ℕ → Reason
-look-reason none = NotRegistered
-look-reason (some p) = Done
+-- and its reason, by the members of the s_group: beside a pid it tells whether the host is one of them (02, request 3)
+abbrev pub look-reason : ℕ → Option ℕ → Reason
+look-reason members none = NotRegistered
+look-reason members (some p) = cond (has members (host p)) Done HostOutside
 
 -- whether the namespace has no room for one more
 abbrev pub full : List Entry → Bool
@@ -180,7 +180,7 @@ inside room N G i (unregister-name s n) found =
     (say True NotRegistered)))
 inside room N G i (whereis-name s n) found =
     cond (eqb n 0) (say Error NameZero)
-    (as-member i Undefined found (λ g. say (pid-or-undefined (lookup n (g .names))) (look-reason (lookup n (g .names)))))
+    (as-member i Undefined found (λ g. say (pid-or-undefined (lookup n (g .names))) (look-reason (g .members) (lookup n (g .names)))))
 inside room N G i (registered-names s) found =
     as-member i (Listed 0) found (λ g. listed room (name-words s (g .names)))
 inside room N G i (add-nodes s set) found =
@@ -220,14 +220,14 @@ group-step room i c st = settle (target c) (outcome room (st .size) (length (st 
 
 -- ---- all fifteen
 
--- what a lookup finds, and why nothing where it doesn't
+-- what a lookup finds, and its reason
 pub record Looked : Type 0 where
   pub found : Option ℕ
   pub reason : Reason
 
--- a lookup by a member
-abbrev pub looked : Option ℕ → Looked
-looked o = record { found = o; reason = look-reason o }
+-- a lookup by a member, in an s_group of these members
+abbrev pub looked : ℕ → Option ℕ → Looked
+looked members o = record { found = o; reason = look-reason members o }
 
 -- a lookup that finds nothing, for this reason
 abbrev pub nothing-found : Reason → Looked
@@ -236,7 +236,7 @@ nothing-found r = record { found = none; reason = r }
 -- a lookup of n in the s_group, with i as the asking node
 abbrev pub look-in : ℕ → ℕ → Option Group → Looked
 look-in i n none = nothing-found GroupUnknown
-look-in i n (some g) = cond (has (g .members) i) (looked (lookup n (g .names))) (nothing-found NotMember)
+look-in i n (some g) = cond (has (g .members) i) (looked (g .members) (lookup n (g .names))) (nothing-found NotMember)
 
 -- FindName, with its reason: zero as the s_group's name finds nothing
 abbrev pub ask : ℕ → ℕ → ℕ → State → Looked

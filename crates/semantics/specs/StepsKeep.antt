@@ -19,14 +19,14 @@ use Rattle.commands.specs.declared.Command.{Command}
 use Rattle.commands.specs.declared.Command.the-variants.{RegisterName, ReRegisterName, UnregisterName, RegisteredNames, WhereisName, WhereisNameAt, Send, SendName, SendAt, NewSGroup, AddNodes, RemoveNodes, DeleteSGroup, OwnNodes, OwnSGroups}
 use Rattle.semantics.specs.GroupCommands.{GroupCommand, register-name, re-register-name, unregister-name, whereis-name, registered-names, add-nodes, new-s-group, within}
 use Rattle.semantics.specs.Ranges.{held, bad-group}
-use Rattle.semantics.specs.Steps.{Outcome, Result, target, as-member, full, name-words, inside, outcome, apply, group-step, looked, nothing-found, look-in, ask, send-on, for-member, rule, step}
+use Rattle.semantics.specs.Steps.{Outcome, Result, target, as-member, full, name-words, inside, outcome, apply, group-step, ask, send-on, for-member, rule, step}
 use Rattle.answers.specs.declared.Value.{Value}
-use Rattle.answers.specs.declared.Reason.the-variants.{NotRegistered, NotMember}
 use Rattle.semantics.specs.Regular.{Regular}
 use Rattle.semantics.specs.Fits.{Fits}
 use Rattle.semantics.specs.Truth.{neither}
-use Rattle.semantics.specs.NamesKept.{not-held, host-found, sound-register, sound-re-register}
+use Rattle.semantics.specs.NamesKept.{not-held, sound-register, sound-re-register}
 use Rattle.semantics.specs.Changed.{regular-found, regular-hold, regular-join, regular-create}
+use Rattle.semantics.specs.Lookups.{host-asked}
 use Rattle.semantics.specs.Connected.{regular-connect, size-connect}
 use Rattle.semantics.specs.Freed.{regular-delete, regular-left-in}
 
@@ -127,19 +127,6 @@ abbrev next-of : Result → State
 next-of r = r .next
 
 module _ {st : State} (w : Regular names-per-group st) where
-  -- a pid that is found has its host on the roster
-  asked : (j s n p : ℕ) → ask j s n st .found ≡ some p → host p < st .size
-  asked j s n p = go (eqb s 0) (find s (st .groups)) refl
-    where
-      member : (x : Bool) (g : Group) → find s (st .groups) ≡ some g → (cond x (looked (lookup n (g .names))) (nothing-found NotMember)) .found ≡ some p → host p < st .size
-      member true g f q = host-found (st .size) n p (g .names) (regular-found w s g f .names-sound .hosts) q
-      member false g f q = let z : _≡_ {A = ℕ} 0 1 = cc in absurd (omega arith)
-
-      go : (x : Bool) (o : Option Group) → find s (st .groups) ≡ o → (cond x (nothing-found NotRegistered) (look-in j n o)) .found ≡ some p → host p < st .size
-      go true o f q = let z : _≡_ {A = ℕ} 0 1 = cc in absurd (omega arith)
-      go false none f q = let z : _≡_ {A = ℕ} 0 1 = cc in absurd (omega arith)
-      go false (some g) f q = member (has (g .members) j) g f q
-
   sent : (i : ℕ) (found : Option ℕ) → i < st .size → ((p : ℕ) → found ≡ some p → host p < st .size) → Regular names-per-group (send-on i found st)
   sent i none h k = w
   sent i (some p) h k = regular-connect w i (host p) h (k p refl)
@@ -168,7 +155,7 @@ kept-rule room i (SendAt j s n) {st} w b h =
     by-case (leb (st .size) j) (λ x. record { regular = w }) λ x.
     record {
       regular = sent (regular-connect w i j h (leb-false (st .size) j x)) i (ask j s n st .found) (rw (size-connect i j st) h)
-          (rw (size-connect i j st) (asked w j s n));
+          (rw (size-connect i j st) (host-asked w j s n));
     }
 kept-rule room i (Send p) {st} w b h =
     by-case (leb (st .size) (host p)) (λ x. record { regular = w }) λ x.
@@ -176,7 +163,7 @@ kept-rule room i (Send p) {st} w b h =
 kept-rule room i (SendName s n) {st} w b h =
     by-case (bad-group s) (λ x. record { regular = w }) λ x.
     by-case (eqb n 0) (λ x. record { regular = w }) λ x.
-    record { regular = sent w i (ask i s n st .found) h (asked w i s n) }
+    record { regular = sent w i (ask i s n st .found) h (host-asked w i s n) }
 kept-rule room i (RemoveNodes s set) {st} w b h =
     by-case (bad-group s) (λ x. record { regular = w }) λ x.
     by-case (beyond set (st .size)) (λ x. record { regular = w }) λ x.

@@ -1,26 +1,22 @@
 -- What the steps of the lookup by another node and of the sends have at their returns, on a sound table. Assumes nothing.
 use mathlib.Core.Path.{_≡_, refl, sym, ap, subst}
-use mathlib.Core.Bool.{Bool, true, false, cond}
-use mathlib.Core.Option.{Option, none, some}
+use mathlib.Core.Bool.{true}
 use mathlib.Core.List.{List}
 use Prim.Native.Nat.{ℕ, _<_}
 use native.Mathlib.Omega.{arith}
-use lib.Dec.{eqb}
-use Rattle.nodes.specs.Sets.{node-limit, has}
-use Rattle.entries.specs.Entries.{host, lookup}
+use Rattle.nodes.specs.Sets.{node-limit}
+use Rattle.entries.specs.Entries.{host}
 use Rattle.semantics.specs.Sizes.{names-per-group}
-use Rattle.semantics.specs.State.{Group, State, find}
+use Rattle.semantics.specs.State.{State}
 use Rattle.commands.specs.declared.Command.the-variants.{WhereisNameAt, Send, SendName, SendAt}
 use Rattle.answers.specs.Answers.{answer-of}
-use Rattle.semantics.specs.Steps.{connect, pid-or-undefined, Looked, looked, nothing-found, look-in, ask, send-on}
+use Rattle.semantics.specs.Steps.{connect, pid-or-undefined, Looked, ask, send-on}
 use Rattle.semantics.specs.Test.{sound}
-use Rattle.semantics.specs.Regular.{Regular}
-use Rattle.semantics.specs.NamesKept.{host-found}
-use Rattle.semantics.specs.Changed.{regular-found}
+use Rattle.semantics.specs.Lookups.{host-asked}
 use Rattle.semantics.specs.WordsOfState.{Laid}
 use Rattle.answers.specs.declared.Value.the-variants.{Pid}
 use Rattle.answers.specs.declared.Reason.{Reason}
-use Rattle.answers.specs.declared.Reason.the-variants.{Done, NotRegistered, NotMember}
+use Rattle.answers.specs.declared.Reason.the-variants.{Done}
 use Rattle.names.specs.declared.Lookup.{Lookup}
 use Rattle.names.specs.declared.Lookup.the-variants.{Found}
 use Rattle.inputs.specs.Judge.{name-reason, asking-reason, host-reason}
@@ -30,26 +26,13 @@ use Rattle.place.specs.Sound.{here, regular}
 use Rattle.returns.specs.Judged.{passed, step-whereis-at, step-send, step-send-at, step-send-name}
 use Rattle.returns.specs.Shown.{Says, says}
 
--- a pid that is found has its host on the roster
-pub host-asked : {cap : ℕ} {st : State} → Regular cap st → (j s n p : ℕ) → ask j s n st .found ≡ some p → host p < st .size
-host-asked {st = st} w j s n p = go (eqb s 0) (find s (st .groups)) refl
-  where
-    for-node : (x : Bool) (g : Group) → find s (st .groups) ≡ some g → (cond x (looked (lookup n (g .names))) (nothing-found NotMember)) .found ≡ some p → host p < st .size
-    for-node true g f q = host-found (st .size) n p (g .names) (regular-found w s g f .names-sound .hosts) q
-    for-node false g f q = let z : _≡_ {A = ℕ} 0 1 = cc in absurd (omega arith)
-
-    go : (x : Bool) (o : Option Group) → find s (st .groups) ≡ o → (cond x (nothing-found NotRegistered) (look-in j n o)) .found ≡ some p → host p < st .size
-    go true o f q = let z : _≡_ {A = ℕ} 0 1 = cc in absurd (omega arith)
-    go false none f q = let z : _≡_ {A = ℕ} 0 1 = cc in absurd (omega arith)
-    go false (some g) f q = for-node (has (g .members) j) g f q
-
 module _ (t : List ℕ) (ok : sound names-per-group t ≡ true) where
   -- a node of the roster is one of those that there can be
   pub in-limit : {i : ℕ} → i < here t .size → i < node-limit
   in-limit h = omega (arith, h, regular t ok .size-high)
 
   -- the host of a pid that the code found
-  pub host-here : (j s n p : ℕ) → looked-up (Found p) ≡ ask j s n (here t) → host p < here t .size
+  pub host-here : (j s n p : ℕ) {r : Reason} → looked-up (Found p r) ≡ ask j s n (here t) → host p < here t .size
   host-here j s n p e = host-asked (regular t ok) j s n p (ap (λ (l : Looked). l .found) (sym e))
 
 module _ (t : List ℕ) (ok : sound names-per-group t ≡ true) (i : ℕ) where

@@ -3,7 +3,6 @@
 use answers::Answer;
 use answers::Reason;
 use answers::Value;
-use answers::done;
 use answers::refused;
 use answers::said;
 use connecting::connect;
@@ -56,7 +55,7 @@ pub fn whereis_name_at(t: &mut [u64], caller: u32, node: u32, s: u32, n: u32) ->
     let seen = look(t, node, s, n);
     connect(t, caller, node);
     match seen {
-        Lookup::Found(p) => done(Value::Pid(p)),
+        Lookup::Found(p, why) => said(Value::Pid(p), why),
         Lookup::Missing(why) => said(Value::Undefined, why),
     }
 }
@@ -74,7 +73,7 @@ pub fn send(t: &mut [u64], caller: u32, p: u32) -> Answer
         return refused(reason);
     };
     connect_by(t, caller, caller, p / PIDS_PER_HOST);
-    done(Value::Pid(p))
+    said(Value::Pid(p), Reason::Done)
 }
 
 // A send to the pid that the caller finds under the name.
@@ -90,9 +89,9 @@ pub fn send_name(t: &mut [u64], caller: u32, s: u32, n: u32) -> Answer
         return refused(reason);
     };
     match look(t, caller, s, n) {
-        Lookup::Found(p) => {
+        Lookup::Found(p, why) => {
             connect(t, caller, p / PIDS_PER_HOST);
-            done(Value::Pid(p))
+            said(Value::Pid(p), why)
         }
         Lookup::Missing(why) => said(Value::Undefined, why),
     }
@@ -111,9 +110,9 @@ pub fn send_at(t: &mut [u64], caller: u32, node: u32, s: u32, n: u32) -> Answer
         return refused(reason);
     };
     match look(t, node, s, n) {
-        Lookup::Found(pid) => {
+        Lookup::Found(pid, why) => {
             connect_by(t, caller, node, pid / PIDS_PER_HOST);
-            done(Value::Pid(pid))
+            said(Value::Pid(pid), why)
         }
         Lookup::Missing(why) => {
             connect(t, caller, node);

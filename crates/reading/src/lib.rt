@@ -76,7 +76,7 @@ pub fn whereis_name(t: &[u64], caller: u32, s: u32, n: u32) -> Answer
         return refused(reason);
     };
     match look(t, caller, s, n) {
-        Lookup::Found(p) => done(Value::Pid(p)),
+        Lookup::Found(p, why) => said(Value::Pid(p), why),
         Lookup::Missing(why) => said(Value::Undefined, why),
     }
 }

@@ -112,7 +112,7 @@ unregister-in n g =
 
 -- whereis_name
 abbrev pub whereis-in : ℕ → Group → Outcome
-whereis-in n g = say (pid-or-undefined (lookup n (g .names))) (look-reason (lookup n (g .names)))
+whereis-in n g = say (pid-or-undefined (lookup n (g .names))) (look-reason (g .members) (lookup n (g .names)))
 
 -- registered_names, with a run of so much room
 abbrev pub names-in : ℕ → ℕ → Group → Outcome

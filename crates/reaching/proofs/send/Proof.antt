@@ -58,8 +58,8 @@ connect-by-requires c κs =
     let to = in-limit t (p .pre .1) (d .1) in
     (p .pre .0, (omega arith, (omega arith, omega arith)))
 
-done-requires : tie.Need-done-requires
-done-requires c κs = search needs
+said-requires : tie.Need-said-requires
+said-requires c κs = search needs
 
 same-length : tie.Need-same-length
 same-length c = search needs
@@ -72,7 +72,7 @@ returns-2 c =
     let p = start j in
     let t = p .args .t .now in
     let d = judged j in
-    rw (c .done .ensures) (send-told t (p .pre .1) (p .args .caller) (p .args .p) (j .before .before .host-reason .ensures) (j .enum-told .given .1) (k .connect-by .last .0)
+    rw (c .said .ensures) (send-told t (p .pre .1) (p .args .caller) (p .args .p) (j .before .before .host-reason .ensures) (j .enum-told .given .1) (k .connect-by .last .0)
     (k .connect-by .ensures (here t) (base t (p .pre .1)) (regular t (p .pre .1)) (d .0) (d .0)))
 
 pub send-spec : {M : Type 1} → statement M
@@ -86,6 +86,6 @@ send-spec =
     refused-requires
     returns
     connect-by-requires
-    done-requires
+    said-requires
     same-length
     returns-2)

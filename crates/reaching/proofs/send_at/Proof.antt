@@ -40,7 +40,7 @@ limits c =
     (in-limit (p .args .t .now) (p .pre .1) (d .0), in-limit (p .args .t .now) (p .pre .1) (d .3))
 
 -- the pid that is found
-found : (c : tie.After-known-told) → let a = start (c .before .before .before .before .before) .args in looked-up (Found (c .before .pid .given .0 .0)) ≡ ask (a .node) (a .s) (a .n) (here (a .t .now))
+found : (c : tie.After-known-told) → let a = start (c .before .before .before .before .before) .args in looked-up (Found (c .before .pid .given .0 .0) (c .before .pid .given .0 .1 .0)) ≡ ask (a .node) (a .s) (a .n) (here (a .t .now))
 found c = ap looked-up (sym (c .before .pid .given .1)) ∙ c .before .before .before .look .ensures
 
 slice-read-size : tie.Need-slice-read-size
@@ -81,8 +81,8 @@ connect-by-requires c κs =
     let both = limits j in
     (p .pre .0, (omega arith, (omega arith, in-limit (a .t .now) (p .pre .1) (host-here (a .t .now) (p .pre .1) (a .node) (a .s) (a .n) _ (found e)))))
 
-done-requires : tie.Need-done-requires
-done-requires c κs = search needs
+said-requires : tie.Need-said-requires
+said-requires c κs = search needs
 
 enum-known-why : tie.Need-enum-known-why
 enum-known-why c = search needs
@@ -93,8 +93,8 @@ connect-requires c κs =
     let both = limits j in
     (start j .pre .0, (omega arith, omega arith))
 
-said-requires : tie.Need-said-requires
-said-requires c κs = search needs
+said-requires-2 : tie.Need-said-requires-2
+said-requires-2 c κs = search needs
 
 same-length : tie.Need-same-length
 same-length c = search needs
@@ -109,8 +109,8 @@ returns-2 c =
     let a = p .args in
     let t = a .t .now in
     let d = asked j in
-    rw (c .done .ensures) (send-at-told t (p .pre .1) (a .caller) (a .node) (a .s) (a .n) (j .before .before .asking-reason .ensures) (j .enum-told .given .1)
-    (Found (e .before .pid .given .0 .0)) (found e) (k .connect-by .last .0)
+    rw (c .said .ensures) (send-at-told t (p .pre .1) (a .caller) (a .node) (a .s) (a .n) (j .before .before .asking-reason .ensures) (j .enum-told .given .1)
+    (Found (e .before .pid .given .0 .0) (e .before .pid .given .0 .1 .0)) (found e) (k .connect-by .last .0)
     (k .connect-by .ensures (here t) (base t (p .pre .1)) (regular t (p .pre .1)) (omega arith) (omega arith)))
 
 same-length-2 : tie.Need-same-length-2
@@ -126,7 +126,7 @@ returns-3 c =
     let p = start j in
     let a = p .args in
     let t = a .t .now in
-    rw (c .said .ensures) (send-at-told t (p .pre .1) (a .caller) (a .node) (a .s) (a .n) (j .before .before .asking-reason .ensures) (j .enum-told .given .1)
+    rw (c .said2 .ensures) (send-at-told t (p .pre .1) (a .caller) (a .node) (a .s) (a .n) (j .before .before .asking-reason .ensures) (j .enum-told .given .1)
     (Missing (e .before .why .given .0 .0)) (ap looked-up (sym (e .before .why .given .1)) ∙ f .look .ensures) (k .connect .last .0)
     (k .connect .ensures (here t) (base t (p .pre .1)) (regular t (p .pre .1))))
 
@@ -143,10 +143,10 @@ send-at-spec =
     look-requires
     enum-known-pid
     connect-by-requires
-    done-requires
+    said-requires
     enum-known-why
     connect-requires
-    said-requires
+    said-requires-2
     same-length
     returns-2
     same-length-2

@@ -22,7 +22,7 @@ abbrev start : tie.After-enum-told → tie.Start
 start c = c .before .before .before .before .before
 
 -- the pid that is found
-found : (c : tie.After-known-told) → let a = start (c .before .before .before .before .before) .args in looked-up (Found (c .before .p .given .0 .0)) ≡ ask (a .caller) (a .s) (a .n) (here (a .t .now))
+found : (c : tie.After-known-told) → let a = start (c .before .before .before .before .before) .args in looked-up (Found (c .before .p .given .0 .0) (c .before .p .given .0 .1 .0)) ≡ ask (a .caller) (a .s) (a .n) (here (a .t .now))
 found c = ap looked-up (sym (c .before .p .given .1)) ∙ c .before .before .before .look .ensures
 
 slice-read-size : tie.Need-slice-read-size
@@ -64,14 +64,14 @@ connect-requires c κs =
     let d = group-done N (a .caller) (a .s) (name-done N (a .caller) (a .s) (a .n) (sym (j .before .before .name-reason .ensures) ∙ j .enum-told .given .1) .0) in
     (p .pre .0, (in-limit (a .t .now) (p .pre .1) (d .0), in-limit (a .t .now) (p .pre .1) (host-here (a .t .now) (p .pre .1) (a .caller) (a .s) (a .n) _ (found (c .before)))))
 
-done-requires : tie.Need-done-requires
-done-requires c κs = search needs
+said-requires : tie.Need-said-requires
+said-requires c κs = search needs
 
 enum-known-why : tie.Need-enum-known-why
 enum-known-why c = search needs
 
-said-requires : tie.Need-said-requires
-said-requires c κs = search needs
+said-requires-2 : tie.Need-said-requires-2
+said-requires-2 c κs = search needs
 
 same-length : tie.Need-same-length
 same-length c = search needs
@@ -85,8 +85,8 @@ returns-2 c =
     let p = start j in
     let a = p .args in
     let t = a .t .now in
-    rw (c .done .ensures) (send-name-told t (p .pre .1) (a .caller) (a .s) (a .n) (j .before .before .name-reason .ensures) (j .enum-told .given .1)
-    (Found (e .before .p .given .0 .0)) (found e) (k .connect .last .0)
+    rw (c .said .ensures) (send-name-told t (p .pre .1) (a .caller) (a .s) (a .n) (j .before .before .name-reason .ensures) (j .enum-told .given .1)
+    (Found (e .before .p .given .0 .0) (e .before .p .given .0 .1 .0)) (found e) (k .connect .last .0)
     (k .connect .ensures (here t) (base t (p .pre .1)) (regular t (p .pre .1))))
 
 same-length-2 : tie.Need-same-length-2
@@ -101,7 +101,7 @@ returns-3 c =
     let p = start j in
     let a = p .args in
     let t = a .t .now in
-    rw (c .said .ensures) (send-name-told t (p .pre .1) (a .caller) (a .s) (a .n) (j .before .before .name-reason .ensures) (j .enum-told .given .1)
+    rw (c .said2 .ensures) (send-name-told t (p .pre .1) (a .caller) (a .s) (a .n) (j .before .before .name-reason .ensures) (j .enum-told .given .1)
     (Missing (d .why .given .0 .0)) (ap looked-up (sym (d .why .given .1)) ∙ f .look .ensures) t (base t (p .pre .1)))
 
 pub send-name-spec : {M : Type 1} → statement M
@@ -117,9 +117,9 @@ send-name-spec =
     look-requires
     enum-known-p
     connect-requires
-    done-requires
-    enum-known-why
     said-requires
+    enum-known-why
+    said-requires-2
     same-length
     returns-2
     same-length-2

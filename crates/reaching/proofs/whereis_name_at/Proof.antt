@@ -60,14 +60,14 @@ connect-requires c κs =
 enum-known-seen : tie.Need-enum-known-seen
 enum-known-seen c = search needs
 
-done-requires : tie.Need-done-requires
-done-requires c κs = search needs
+said-requires : tie.Need-said-requires
+said-requires c κs = search needs
 
 enum-known-seen-2 : tie.Need-enum-known-seen-2
 enum-known-seen-2 c = search needs
 
-said-requires : tie.Need-said-requires
-said-requires c κs = search needs
+said-requires-2 : tie.Need-said-requires-2
+said-requires-2 c κs = search needs
 
 same-length : tie.Need-same-length
 same-length c = search needs
@@ -82,8 +82,8 @@ returns-2 c =
     let p = start j in
     let a = p .args in
     let t = a .t .now in
-    rw (c .done .ensures) (whereis-told t (p .pre .1) (a .caller) (a .node) (a .s) (a .n) (j .before .before .asking-reason .ensures) (j .enum-told .given .1)
-    (Found (e .seen .given .0 .0)) (ap looked-up (sym (e .seen .given .1)) ∙ f .look .ensures) (k .connect .last .0)
+    rw (c .said .ensures) (whereis-told t (p .pre .1) (a .caller) (a .node) (a .s) (a .n) (j .before .before .asking-reason .ensures) (j .enum-told .given .1)
+    (Found (e .seen .given .0 .0) (e .seen .given .0 .1 .0)) (ap looked-up (sym (e .seen .given .1)) ∙ f .look .ensures) (k .connect .last .0)
     (k .connect .ensures (here t) (base t (p .pre .1)) (regular t (p .pre .1))))
 
 same-length-2 : tie.Need-same-length-2
@@ -99,7 +99,7 @@ returns-3 c =
     let p = start j in
     let a = p .args in
     let t = a .t .now in
-    rw (c .said .ensures) (whereis-told t (p .pre .1) (a .caller) (a .node) (a .s) (a .n) (j .before .before .asking-reason .ensures) (j .enum-told .given .1)
+    rw (c .said2 .ensures) (whereis-told t (p .pre .1) (a .caller) (a .node) (a .s) (a .n) (j .before .before .asking-reason .ensures) (j .enum-told .given .1)
     (Missing (e .seen2 .given .0 .0)) (ap looked-up (sym (e .seen2 .given .1)) ∙ f .look .ensures) (k .connect .last .0)
     (k .connect .ensures (here t) (base t (p .pre .1)) (regular t (p .pre .1))))
 
@@ -116,9 +116,9 @@ whereis-name-at-spec =
     look-requires
     connect-requires
     enum-known-seen
-    done-requires
-    enum-known-seen-2
     said-requires
+    enum-known-seen-2
+    said-requires-2
     same-length
     returns-2
     same-length-2

@@ -57,24 +57,24 @@ look-requires c κs = search needs
 enum-known-p : tie.Need-enum-known-p
 enum-known-p c = search needs
 
-done-requires : tie.Need-done-requires
-done-requires c κs = search needs
+said-requires : tie.Need-said-requires
+said-requires c κs = search needs
 
 enum-known-why : tie.Need-enum-known-why
 enum-known-why c = search needs
 
-said-requires : tie.Need-said-requires
-said-requires c κs = search needs
+said-requires-2 : tie.Need-said-requires-2
+said-requires-2 c κs = search needs
 
 returns-2 : tie.Need-returns-2
 unfolding state-of
 returns-2 c =
-    rw (c .done .ensures) (told-here (c .before .before .before .before) _ (c .before .before .p .given .1))
+    rw (c .said .ensures) (told-here (c .before .before .before .before) _ (c .before .before .p .given .1))
 
 returns-3 : tie.Need-returns-3
 unfolding state-of
 returns-3 c =
-    rw (c .said .ensures) (told-here (c .before .before .before .before) _ (c .before .before .why .given .1))
+    rw (c .said2 .ensures) (told-here (c .before .before .before .before) _ (c .before .before .why .given .1))
 
 pub whereis-name-spec : {M : Type 1} → statement M
 whereis-name-spec =
@@ -88,8 +88,8 @@ whereis-name-spec =
     returns
     look-requires
     enum-known-p
-    done-requires
-    enum-known-why
     said-requires
+    enum-known-why
+    said-requires-2
     returns-2
     returns-3)

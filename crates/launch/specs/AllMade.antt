@@ -1,5 +1,6 @@
 -- What a launch leaves: refused, for the lowest reason that holds, the table as it was; otherwise a sound table in which every kept group was made. Assumes nothing.
 use mathlib.Core.Path.{_≡_, refl, sym, ap}
+use mathlib.Core.Logic.{_⊎_, inl, inr}
 use mathlib.Core.Bool.{Bool, true, false, not, _||_, cond, false≢true}
 use mathlib.Core.List.{List, [], _∷_}
 use Prim.Native.Nat.{ℕ, _*_, _^_, _≤_}
@@ -82,6 +83,16 @@ module _ (N hidden start : ℕ) (book file t : List ℕ) where
       go : (r : Reason) (x : Bool) → refuses (given r x .answer .reason) ≡ true → given r x .table ≡ t
       go r true h = refl
       go r false h = absurd (false≢true h)
+
+  -- and one that is not refused has 0: no other reason stands beside Ok
+  pub launch-done-or-refused : (launch N hidden start book file t .answer .reason ≡ Done) ⊎ (refuses (launch N hidden start book file t .answer .reason) ≡ true)
+  unfolding launch
+  launch-done-or-refused =
+      go (first (launch-tests (length t) N hidden start book (outcome file))) (refuses (first (launch-tests (length t) N hidden start book (outcome file)))) refl
+    where
+      go : (r : Reason) (x : Bool) → refuses r ≡ x → (given r x .answer .reason ≡ Done) ⊎ (refuses (given r x .answer .reason) ≡ true)
+      go r true h = inr h
+      go r false h = inl refl
 
   -- no refusal is Ok
   never : (r : Reason) → answer-of Error r ≡ answer-of Ok Done → ⊥

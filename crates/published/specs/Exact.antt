@@ -7,7 +7,7 @@ use Prim.Native.Nat.{ℕ}
 use Rattle.semantics.specs.Sizes.{names-per-group}
 use Rattle.semantics.specs.State.{State}
 use Rattle.commands.specs.declared.Command.{Command}
-use Rattle.answers.specs.Answers.{answer-of}
+use Rattle.answers.specs.Answers.{refuses, answer-of}
 use Rattle.semantics.specs.Steps.{Result, step}
 use Rattle.semantics.specs.Table.{state-of}
 use Rattle.semantics.specs.Soundness.{Sound}
@@ -22,7 +22,6 @@ use Rattle.semantics.specs.Calls.{call-sound, calls-keep-sound}
 use Rattle.answers.specs.declared.Answer.{Answer}
 use Rattle.answers.specs.declared.Value.{Value}
 use Rattle.answers.specs.declared.Reason.{Reason}
-use Rattle.answers.specs.declared.Reason.the-variants.{Done}
 use Rattle.published.specs.Published.{Published, Step, gives, transition}
 use Rattle.published.specs.SeenState.{published, said, seen-table, seen-sound, layout-seen}
 use Rattle.published.specs.Refusals.{tests, ruled, refusal, Answered, answer}
@@ -81,15 +80,16 @@ module _ (room i : ℕ) (c : Command) (t : List ℕ) (h : Sound names-per-group 
   only-table u v e =
       table-determined u (call room i c t .table) v (calls-keep-sound room i c t fits h) (e ∙ sym (ap (λ (a : Answered). a .state) exact-call))
 
-  -- a call that is answered with 0 does what 000's rule says
-  pub accepted-call : (v : Value) → call room i c t .answer ≡ answer-of v Done
+  -- a call that is not refused does what 000's rule says
+  pub accepted-call : (v : Value) (r : Reason) → call room i c t .answer ≡ answer-of v r → refuses r ≡ false
       → (said (transition c i (seen-table t) .value) .0 ≡ v) × (seen-table (call room i c t .table) ≡ transition c i (seen-table t) .state)
   unfolding answer
-  accepted-call v a =
+  accepted-call v r a f =
       let X : Published = seen-table t in
       let why : Reason = first (tests room c i X) in
-      let r : why ≡ Done = sym (ap (λ (x : Answered). x .answer .reason) exact-call) ∙ ap (λ (x : Answer). x .reason) a in
-      let q : cond (ruled why) (transition c i X) (gives (refusal why) X) ≡ transition c i X = ap (λ (x : Reason). cond (ruled x) (transition c i X) (gives (refusal x) X)) r in (
+      let e : why ≡ r = sym (ap (λ (x : Answered). x .answer .reason) exact-call) ∙ ap (λ (x : Answer). x .reason) a in
+      let ruled-so : ruled why ≡ true = ap ruled e ∙ rw f in
+      let q : cond (ruled why) (transition c i X) (gives (refusal why) X) ≡ transition c i X = rw ruled-so in (
         sym (ap (λ (x : Step). said (x .value) .0) q) ∙ sym (ap (λ (x : Answered). x .answer .value) exact-call) ∙ ap (λ (x : Answer). x .value) a,
         ap (λ (x : Answered). x .state) exact-call ∙ ap (λ (x : Step). x .state) q,
       )

@@ -19,10 +19,12 @@ pub mod SeenState
 pub mod Determined
 pub mod Built
 pub mod Fair
--- ---- what 000 and 001 say of states and lists: the three classes divide the nodes, free groups as a set of sets, lists ascend; what 02 says of names that left
+-- ---- what 000 and 001 say of states and lists: the three classes divide the nodes, free groups as a set of sets, lists ascend; what 02 says of names that left and of
+-- strangers
 pub mod Classes
 pub mod FreeGroups
 pub mod Listed
+pub mod Strangers
 pub mod NamesThatLeft
 -- ---- what is seen of a state: "for some number", lists of a map, s_groups, names, connections and free groups
 pub mod SomeBelow

@@ -1,5 +1,5 @@
 -- What remove_nodes leaves of the names (02, request 2), as lookups find them: a name whose pid lives on a member that left is found by nobody in that
--- s_group, those who stay find every other name as before, and the other s_groups are as they were. Assumes nothing.
+-- s_group, those who stay find every other name as before, a stranger's as a stranger's, and the other s_groups are as they were. Assumes nothing.
 use mathlib.Core.Path.{_≡_, refl, sym, ap, _∙_, subst}
 use mathlib.Core.Bool.{Bool, true, false, not, _&&_, cond, true≢false}
 use mathlib.Core.Option.{Option, none, some}
@@ -18,12 +18,14 @@ use Rattle.answers.specs.declared.Reason.the-variants.{Done}
 use Rattle.semantics.specs.Sizes.{names-per-group}
 use Rattle.semantics.specs.Soundness.{Sound}
 use Rattle.semantics.specs.Fits.{Fits}
+use Rattle.semantics.specs.Asks.{lookup-here}
 use Rattle.semantics.specs.Call.{call}
 use Rattle.semantics.specs.Calls.{calls-keep-sound}
 use Rattle.published.specs.Published.{Set, Map, of-some, _∖_, _∩_, any, with-at, less-at, SGroup, Published, IsSGroupSNode, FindName, MergeFreeNormalGroups, AddFreeNormalGroup, NewFreeNodes, True, Error, Undefined, Pid, gives, leaving, less-hosted, less-members, transition}
 use Rattle.published.specs.SomeBelow.{any-hit}
 use Rattle.published.specs.SeenState.{said, seen-table}
 use Rattle.published.specs.Exact.{accepted-call}
+use Rattle.published.specs.Strangers.{beside, beside-refuses, beside-a-pid}
 
 -- ---- nodes that become free change no s_group
 
@@ -98,6 +100,26 @@ module _ (s set ni : ℕ) (X : Published) (g : SGroup) (is : X .grs s ≡ some g
       go false false r = held-or-not r
       go false true r = here (stay j) (g .namespace n) r
 
+  -- and on a member exactly where it lived on one before
+  pub same-member : (j n p : ℕ) → FindName j s n after ≡ some p → IsSGroupSNode (host p) s after ≡ g .nodes (host p)
+  same-member j n p e =
+      ap (of-some false (λ (h : SGroup). h .nodes (host p))) after-s ∙ go (any node-limit stay)
+      (sym (ap (λ (o : Option SGroup). cond (eqb s 0) none (of-some none (λ h. cond (h .nodes j) (h .namespace n) none) o)) after-s) ∙ e)
+    where
+      still : (x y : Bool) → x && y ≡ false → x && not y ≡ x
+      still true true q = sym q
+      still true false q = refl
+      still false y q = refl
+
+      nobody-finds : (x : Bool) → _≡_ {A = Option ℕ} (cond x none none) none
+      nobody-finds true = refl
+      nobody-finds false = refl
+
+      go : (x : Bool) → cond (eqb s 0) none (of-some none (λ h. cond (h .nodes j) (h .namespace n) none) (cond x (some rest) none)) ≡ some p
+          → of-some false (λ (h : SGroup). h .nodes (host p)) (cond x (some rest) none) ≡ g .nodes (host p)
+      go true r = still (g .nodes (host p)) (has set (host p)) (moved-away j n p e)
+      go false r = held-or-not (sym (nobody-finds (eqb s 0)) ∙ r)
+
   -- a member that stays finds what it found, but for those
   pub others-found : (j n : ℕ) → j < node-limit → stay j ≡ true → FindName j s n after ≡ less-hosted leave (λ m. FindName j s m (X .grs)) n
   others-found j n l h =
@@ -133,21 +155,41 @@ module _ (i s set : ℕ) (t : List ℕ) (h : Sound names-per-group t) (fits : Fi
           let v : W.Error ≡ W.True =
           sym (ap (λ (o : Option SGroup). said (of-some (gives Error X) (λ k. cond (k .nodes i) (gives True (leaving s (has set) (less-members s (has set) k (X .grs)) X)) (gives Error X)) o .value) .0) is
           ∙ ap (λ (x : Bool). said (cond x (gives True (leaving s (has set) (less-members s (has set) g (X .grs)) X)) (gives Error X) .value) .0) e)
-          ∙ accepted-call 0 i (RemoveNodes s set) t h fits W.True done .0 in
+          ∙ accepted-call 0 i (RemoveNodes s set) t h fits W.True Done done refl .0 in
           let z : _≡_ {A = ℕ} 0 1 = cc in absurd (omega arith)
 
-  -- A node that left is not found there any more: no plain lookup in the s_group, by whatever node, answers a pid of a member that this call removed
-  pub not-found : (j n p : ℕ) → Fits (WhereisName s n) → call 0 j (WhereisName s n) (call 0 i (RemoveNodes s set) t .table) .answer ≡ answer-of (W.Pid p) Done
-      → g .nodes (host p) && has set (host p) ≡ false
+  -- the table that is left
+  abbrev left : List ℕ
+  left = call 0 i (RemoveNodes s set) t .table
+
+  left-sound : Sound names-per-group left
+  left-sound = calls-keep-sound 0 i (RemoveNodes s set) t fits h
+
+  removed : seen-table left ≡ transition (RemoveNodes s set) i (seen-table t) .state
+  removed = accepted-call 0 i (RemoveNodes s set) t h fits W.True Done done refl .1
+
+  -- what a lookup tells is what FindName finds
+  found : (j n p : ℕ) → Fits (WhereisName s n) → call 0 j (WhereisName s n) left .answer .value ≡ W.Pid p
+      → FindName j s n (transition (RemoveNodes s set) i (seen-table t) .state .grs) ≡ some p
   unfolding transition
-  not-found j n p f e =
-      let u : List ℕ = call 0 i (RemoveNodes s set) t .table in
-      let a = accepted-call 0 j (WhereisName s n) u (calls-keep-sound 0 i (RemoveNodes s set) t fits h) f (W.Pid p) e in
-      moved-away s set i (seen-table t) g is by-member j n p
-      (subst (λ (Y : Published). FindName j s n (Y .grs) ≡ some p) (accepted-call 0 i (RemoveNodes s set) t h fits W.True done .1)
-      (asked (IsSGroupSNode j s (seen-table u .grs)) (FindName j s n (seen-table u .grs)) (a .0)))
+  found j n p f e =
+      let x : Bool = IsSGroupSNode (host p) s (seen-table left .grs) in
+      let a = accepted-call 0 j (WhereisName s n) left left-sound f (W.Pid p) (beside x)
+      (λ k. record { value = e k; reason = beside-a-pid 0 j lookup-here left left-sound p e k }) (beside-refuses x) in
+      subst (λ (Y : Published). FindName j s n (Y .grs) ≡ some p) removed (asked (IsSGroupSNode j s (seen-table left .grs)) (FindName j s n (seen-table left .grs)) (a .0))
     where
       asked : (x : Bool) (o : Option ℕ) → said (of-some Undefined Pid (cond x o none)) .0 ≡ W.Pid p → o ≡ some p
       asked true (some q) r = let same : q ≡ p = cc in ap some same
       asked true none r = let z : _≡_ {A = ℕ} 0 1 = cc in absurd (omega arith)
       asked false o r = let z : _≡_ {A = ℕ} 0 1 = cc in absurd (omega arith)
+
+  -- A node that left is not found there any more: no plain lookup in the s_group, by whatever node, answers a pid of a member that this call removed
+  pub not-found : (j n p : ℕ) → Fits (WhereisName s n) → call 0 j (WhereisName s n) left .answer .value ≡ W.Pid p → g .nodes (host p) && has set (host p) ≡ false
+  not-found j n p f e = moved-away s set i (seen-table t) g is by-member j n p (found j n p f e)
+
+  -- and what is still found there is a stranger's or a member's as before: no removal makes a stranger
+  pub as-before : (j n p : ℕ) → Fits (WhereisName s n) → call 0 j (WhereisName s n) left .answer .value ≡ W.Pid p
+      → call 0 j (WhereisName s n) left .answer .reason ≡ beside (g .nodes (host p))
+  as-before j n p f e =
+      beside-a-pid 0 j lookup-here left left-sound p e
+      ∙ ap beside (ap (λ (Y : Published). IsSGroupSNode (host p) s (Y .grs)) removed ∙ same-member s set i (seen-table t) g is by-member j n p (found j n p f e))

@@ -4,6 +4,7 @@ use mathlib.Core.List.{List, [], _∷_}
 use Prim.Native.Nat.{ℕ, zero, suc, _*_, _+_}
 use Rattle.entries.specs.Entries.{Entry, pids-per-host}
 use Rattle.semantics.specs.Sizes.{names-per-group}
+use Rattle.semantics.specs.State.{Group}
 use Rattle.commands.specs.declared.Command.the-variants.{RegisterName, WhereisName, RemoveNodes}
 use Rattle.semantics.specs.Call.{call}
 use Rattle.semantics.specs.Marked.{claim}
@@ -20,13 +21,21 @@ pid-on h k = h * pids-per-host + k
 abbrev pub at-node : ℕ → ℕ → Entry
 at-node h n = record { name = n; pid = pid-on h n }
 
--- four nodes, of which 0, 1 and 2 are connected: the s_group 5 with these members and names, the s_group 6 of node 1 with names of 1 and 2, and the free groups
-abbrev pub store : ℕ → List Entry → List ℕ → List ℕ
-store m es = table-of 4 0 (record { name = 5; members = m; names = es } ∷ record { name = 6; members = 2; names = at-node 1 71 ∷ at-node 2 72 ∷ [] } ∷ []) (6 ∷ 5 ∷ 3 ∷ [])
+-- the s_group 5 with these members and names, and the s_group 6 of node 1 with names of 1 and 2
+abbrev pub two-groups : ℕ → List Entry → List Group
+two-groups m es = record { name = 5; members = m; names = es } ∷ record { name = 6; members = 2; names = at-node 1 71 ∷ at-node 2 72 ∷ [] } ∷ []
 
--- 0, 1 and 2 are in 5, which has a name for a pid of each node; node 3 is a stranger to it
+-- four nodes, of which 0, 1 and 2 are connected, with these s_groups and the free groups
+abbrev pub store : ℕ → List Entry → List ℕ → List ℕ
+store m es = table-of 4 0 (two-groups m es) (6 ∷ 5 ∷ 3 ∷ [])
+
+-- a name for a pid of each node
+abbrev pub every-node : List Entry
+every-node = at-node 0 70 ∷ at-node 1 71 ∷ at-node 2 72 ∷ at-node 3 73 ∷ []
+
+-- 0, 1 and 2 are in 5, which has these names; node 3 is a stranger to it
 abbrev pub full-store : List ℕ
-full-store = store 7 (at-node 0 70 ∷ at-node 1 71 ∷ at-node 2 72 ∷ at-node 3 73 ∷ []) (0 ∷ 0 ∷ 0 ∷ 8 ∷ [])
+full-store = store 7 every-node (0 ∷ 0 ∷ 0 ∷ 8 ∷ [])
 
 -- the same without node 1, and without its name
 abbrev pub less-one : List ℕ

@@ -29,6 +29,7 @@ pub mod Compute
 pub mod Marked
 pub mod Edges
 pub mod LeavingEdges
+pub mod StrangerEdges
 pub mod Readings
 -- ---- what a state of a sound table has: the working invariant, tests and truth values, members, s_groups in order, free nodes
 pub mod Regular

@@ -3,7 +3,7 @@
 use borrow.Author.Needs.{needs}
 use mathlib.Core.Path.{ap, _∙_}
 use Rattle.launch.specs.Launch.{Launch}
-use Rattle.sgroup_launch.specs.Reported.{same-launch, through, refused}
+use Rattle.sgroup_launch.specs.Reported.{same-launch, either-way, through, refused}
 use Rattle.sgroup_launch.proofs.put_report.Statement.{statement}
 use Rattle.sgroup_launch.proofs.put_report.Tie as tie
 
@@ -53,7 +53,7 @@ returns-2 c =
     let q = c .before .before .before .before .put-refusal in
     let s = same-launch (c .before .before .before .before .before .before .before .before .before .before .before .before .before .before .before .before .before .before .before .before .args .asked) _ _ _ (c .before .before .before .before .before .before .before .before .before .before .before .before .front .ensures) in
     refused _ (c .before .before .before .before .before .before .before .before .before .before .before .before .before .before .before .before .before .before .before .before .args .asked) _ _ _ _ (l .ensures .0 ∙ ap (λ (x : Launch). x .answer) s) _ (c .before .before .before .before .before .before .before .before .number .ensures)
-    (c .before .before .before .before .before .before .before .before .before .before .before .before .before .before .before .before .before .before .before .before .args .out .now) (q .last .0) (q .result) (c .before .before .before .before .before .before .before .if1 .left) _
+    (c .before .before .before .before .before .before .before .before .before .before .before .before .before .before .before .before .before .before .before .before .args .out .now) (q .last .0) (q .result) (c .before .before .before .before .before .before .before .if1 .left) (either-way _ _ _) _
     (l .ensures .1 .0 ∙ ap (λ (x : Launch). x .place) s) (q .ensures)
 
 pub put-report-spec : {M : Type 1} → statement M

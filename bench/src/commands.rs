@@ -41,7 +41,8 @@ pub fn pick(prng: &mut Prng, set: u64) -> u32 {
     left.trailing_zeros()
 }
 
-/// Calls of the main case on this table. New names and groups are those between two that are there.
+/// Calls of the main case on this table. New names and groups are those between two that are there. A lookup finds a member's pid or a stranger's, as the
+/// hosts of the table are.
 pub fn main_cases(prng: &mut Prng, which: Which, words: &[u64], calls: usize) -> Vec<Asked> {
     let (nodes, groups) = (words[0], words[2]);
     (0..calls)

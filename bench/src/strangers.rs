@@ -29,10 +29,10 @@ const TIMED: [(&str, Hosts); 3] = [
     ("half of each", Hosts::Either),
 ];
 
-/// The tables that are timed; a small one has a name of each kind.
+/// The tables that are timed; the small one has two names, so that both kinds fit.
 const SIZES: [(&str, Size); 2] = [
     ("full table", FULL),
-    ("small table of two names", Size { names: 2, ..SMALL }),
+    ("small table", Size { names: 2, ..SMALL }),
 ];
 
 impl Hosts {

@@ -30,11 +30,11 @@ pub enum Finding {
     JoinsStranger,
     /// The s_group has one member.
     StrangerToOne,
-    /// A stranger when it was told before, and a member has left since.
+    /// The same stranger when it was told before, and a member has left since.
     StrangerAsOthersLeave,
-    /// A stranger when it was told before, and a node has joined since.
+    /// The same stranger when it was told before, and a node has joined since.
     StrangerAsOthersJoin,
-    /// A member's pid when it was told before, a stranger's now.
+    /// Another pid when it was told before, a member's.
     MovedOut,
     /// The asking node is in another s_group, and shares none of them with the
     /// member.
@@ -45,9 +45,9 @@ pub enum Finding {
     MemberAsked,
     /// A send connects the caller and the member.
     LinksMember,
-    /// A stranger when it was told before, which has joined since.
+    /// The same pid, a stranger's when it was told before; its host has joined since.
     Joined,
-    /// A stranger's pid when it was told before, a member's now.
+    /// Another pid when it was told before, a stranger's.
     MovedIn,
 }
 
@@ -147,53 +147,68 @@ struct Lookup<'a> {
 impl Lookup<'_> {
     /// Whether the lookup finds this.
     fn has(&self, finding: Finding) -> bool {
-        let (host, asker, caller) = (self.found.host(), self.found.asker, self.found.caller);
-        let outsider = !self.now.members.contains(&caller);
-        let (outside, inside) = (self.now.stranger, !self.now.stranger);
-        let grouped = !self.before.in_no_s_group(host);
-        match finding {
-            Finding::FreeStranger => outside && self.free_group(host).is_some(),
-            Finding::HiddenStranger => outside && !self.before.is_normal(host),
-            Finding::GroupedStranger => outside && grouped && !self.share(asker, host),
-            Finding::AskersStranger => outside && self.share(asker, host),
-            Finding::CallersStranger => outside && outsider && self.share(caller, host),
-            Finding::StrangerAsks => outside && caller == host,
-            Finding::ConnectedStranger => outside && self.before.connected(asker, host),
-            Finding::LinksStranger => outside && self.links(),
-            Finding::JoinsStranger => outside && self.links() && self.both_free(),
-            Finding::StrangerToOne => outside && self.now.members.len() == 1,
-            Finding::StrangerAsOthersLeave => self.last.is_some_and(|last| {
-                outside && last.stranger && !last.members.is_subset(&self.now.members)
-            }),
-            Finding::StrangerAsOthersJoin => self.last.is_some_and(|last| {
-                outside && last.stranger && !self.now.members.is_subset(&last.members)
-            }),
-            Finding::MovedOut => outside && self.last.is_some_and(|last| !last.stranger),
-            Finding::MemberHereOnly => {
-                let others = self.before.group_names(asker).len() > 1;
-                inside && others && !self.share(asker, host)
-            }
-            Finding::NotCallersMember => inside && outsider && !self.share(caller, host),
-            Finding::MemberAsked => inside && asker == host && asker != caller,
-            Finding::LinksMember => inside && self.links(),
-            Finding::Joined => inside && self.stranger_before(|pid| pid == self.now.pid),
-            Finding::MovedIn => inside && self.stranger_before(|pid| pid != self.now.pid),
+        if self.now.stranger {
+            self.stranger_has(finding)
+        } else {
+            self.member_has(finding)
         }
+    }
+
+    /// Whether it finds this of a stranger.
+    fn stranger_has(&self, finding: Finding) -> bool {
+        let (host, asker, caller) = (self.found.host(), self.found.asker, self.found.caller);
+        let free = |node: u32| self.before.free_group_of(node).is_some();
+        let grouped = !self.before.in_no_s_group(host);
+        let stayed = self.last.filter(|last| last.pid == self.now.pid);
+        match finding {
+            Finding::FreeStranger => free(host),
+            Finding::HiddenStranger => !self.before.is_normal(host),
+            Finding::GroupedStranger => grouped && !self.share(asker, host),
+            Finding::AskersStranger => self.share(asker, host),
+            Finding::CallersStranger => self.by_outsider() && self.share(caller, host),
+            Finding::StrangerAsks => caller == host,
+            Finding::ConnectedStranger => self.before.connected(asker, host),
+            Finding::LinksStranger => self.links(),
+            Finding::JoinsStranger => self.links() && free(caller) && free(host),
+            Finding::StrangerToOne => self.now.members.len() == 1,
+            Finding::StrangerAsOthersLeave => {
+                stayed.is_some_and(|last| !last.members.is_subset(&self.now.members))
+            }
+            Finding::StrangerAsOthersJoin => {
+                stayed.is_some_and(|last| !self.now.members.is_subset(&last.members))
+            }
+            Finding::MovedOut => self.last.is_some_and(|last| !last.stranger),
+            _ => false,
+        }
+    }
+
+    /// Whether it finds this of a member.
+    fn member_has(&self, finding: Finding) -> bool {
+        let (host, asker, caller) = (self.found.host(), self.found.asker, self.found.caller);
+        let was_stranger = self.last.filter(|last| last.stranger);
+        match finding {
+            Finding::MemberHereOnly => {
+                self.before.group_names(asker).len() > 1 && !self.share(asker, host)
+            }
+            Finding::NotCallersMember => self.by_outsider() && !self.share(caller, host),
+            Finding::MemberAsked => asker == host && asker != caller,
+            Finding::LinksMember => self.links(),
+            Finding::Joined => was_stranger.is_some_and(|last| last.pid == self.now.pid),
+            Finding::MovedIn => was_stranger.is_some_and(|last| last.pid != self.now.pid),
+            _ => false,
+        }
+    }
+
+    /// Whether the caller is no member.
+    fn by_outsider(&self) -> bool {
+        !self.now.members.contains(&self.found.caller)
     }
 
     /// Whether two nodes are in an s_group other than that of the name.
     fn share(&self, a: u32, b: u32) -> bool {
-        let mut both = self.before.group_names(a).into_iter();
+        let mut groups = self.before.group_names(a).into_iter();
         let others = self.before.group_names(b);
-        both.any(|s| s != self.found.s && others.contains(&s))
-    }
-
-    fn free_group(&self, node: u32) -> Option<NodeSet> {
-        self.before.free_group_of(node)
-    }
-
-    fn both_free(&self) -> bool {
-        self.free_group(self.found.caller).is_some() && self.free_group(self.found.host()).is_some()
+        groups.any(|s| s != self.found.s && others.contains(&s))
     }
 
     /// Whether a send's own connection is new.
@@ -201,11 +216,5 @@ impl Lookup<'_> {
         let (host, caller) = (self.found.host(), self.found.caller);
         let linked = host == caller || host == self.found.asker;
         self.sends && !linked && !self.before.connected(caller, host)
-    }
-
-    /// Whether the name was told before as a stranger's, with such a pid.
-    fn stranger_before(&self, such: impl Fn(u32) -> bool) -> bool {
-        self.last
-            .is_some_and(|last| last.stranger && such(last.pid))
     }
 }

@@ -331,7 +331,7 @@ fn members_stay_no_strangers(script: &[u8]) -> Result<(), String> {
 }
 
 #[test]
-fn a_name_that_stays_is_no_strangers_all_at_once() {
+fn a_members_name_becomes_a_strangers_by_re_registering_alone() {
     on_scripts("members");
 }
 

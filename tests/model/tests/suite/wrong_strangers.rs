@@ -6,6 +6,19 @@ use model::answer::{Answer, Reason, Value};
 use model::rules::{own_nodes, Found, Law, Rules};
 use model::state::{host_of, State};
 
+/// What lines print under the documents and under a wrong reading, after those
+/// that give s_group 5 of 0 and 1 a name 70 hosted on 1 and a name 71 hosted on 2.
+fn hosts_told_apart(wrong: &dyn Rules, lines: &[(&str, &str, &str)]) {
+    let hosted = [
+        ("open 4 0", "ok 0"),
+        ("0 new_s_group 5 3", "group 5 3 0"),
+        ("0 register_name 5 70 67108865", "true 0"),
+        ("0 register_name 5 71 134217729", "true 0"),
+    ];
+    let before = hosted.map(|(line, printed)| (line, printed, printed));
+    told_apart(wrong, &[&before, lines].concat());
+}
+
 /// Whether the rules of the documents find a stranger.
 fn stranger(state: &State, found: &Found) -> bool {
     Law.tell(state, found).reason == Reason::HostOutside
@@ -22,14 +35,9 @@ impl Rules for MembersTold {
 
 #[test]
 fn telling_the_members_is_told_apart() {
-    told_apart(
+    hosts_told_apart(
         &MembersTold,
-        &[
-            ("open 4 0", "ok 0", "ok 0"),
-            ("0 new_s_group 5 3", "group 5 3 0", "group 5 3 0"),
-            ("0 register_name 5 70 67108865", "true 0", "true 0"),
-            ("0 whereis_name 5 70", "pid 67108865 0", "pid 67108865 21"),
-        ],
+        &[("0 whereis_name 5 70", "pid 67108865 0", "pid 67108865 21")],
     );
 }
 
@@ -44,12 +52,9 @@ impl Rules for NobodyTold {
 
 #[test]
 fn telling_nobody_is_told_apart() {
-    told_apart(
+    hosts_told_apart(
         &NobodyTold,
         &[
-            ("open 4 0", "ok 0", "ok 0"),
-            ("0 new_s_group 5 3", "group 5 3 0", "group 5 3 0"),
-            ("0 register_name 5 71 134217729", "true 0", "true 0"),
             ("0 whereis_name 5 71", "pid 134217729 21", "pid 134217729 0"),
             ("3 send 0 5 71", "pid 134217729 21", "pid 134217729 0"),
         ],
@@ -68,12 +73,9 @@ impl Rules for SendsTellNobody {
 
 #[test]
 fn sends_that_tell_nobody_are_told_apart() {
-    told_apart(
+    hosts_told_apart(
         &SendsTellNobody,
         &[
-            ("open 4 0", "ok 0", "ok 0"),
-            ("0 new_s_group 5 3", "group 5 3 0", "group 5 3 0"),
-            ("0 register_name 5 71 134217729", "true 0", "true 0"),
             (
                 "3 whereis_name 0 5 71",
                 "pid 134217729 21",
@@ -103,11 +105,9 @@ impl Rules for GivenPidsTold {
 
 #[test]
 fn telling_a_given_pid_is_told_apart() {
-    told_apart(
+    hosts_told_apart(
         &GivenPidsTold,
         &[
-            ("open 4 0", "ok 0", "ok 0"),
-            ("0 new_s_group 5 3", "group 5 3 0", "group 5 3 0"),
             ("0 send 67108865", "pid 67108865 0", "pid 67108865 0"),
             ("0 send 134217729", "pid 134217729 0", "pid 134217729 21"),
         ],
@@ -128,12 +128,9 @@ impl Rules for StrangersUnlinked {
 
 #[test]
 fn leaving_a_stranger_unlinked_is_told_apart() {
-    told_apart(
+    hosts_told_apart(
         &StrangersUnlinked,
         &[
-            ("open 4 0", "ok 0", "ok 0"),
-            ("0 new_s_group 5 3", "group 5 3 0", "group 5 3 0"),
-            ("0 register_name 5 71 134217729", "true 0", "true 0"),
             ("3 send 0 5 71", "pid 134217729 21", "pid 134217729 21"),
             ("3 own_nodes", "nodes 12 2 0", "nodes 8 1 0"),
             ("0 send 5 71", "pid 134217729 21", "pid 134217729 21"),
@@ -154,13 +151,10 @@ impl Rules for ByAskersNodes {
 
 #[test]
 fn judging_by_the_s_groups_of_the_asking_node_is_told_apart() {
-    told_apart(
+    hosts_told_apart(
         &ByAskersNodes,
         &[
-            ("open 4 0", "ok 0", "ok 0"),
-            ("0 new_s_group 5 3", "group 5 3 0", "group 5 3 0"),
             ("0 new_s_group 6 5", "group 6 5 0", "group 6 5 0"),
-            ("0 register_name 5 71 134217729", "true 0", "true 0"),
             (
                 "1 whereis_name 5 71",
                 "pid 134217729 21",
@@ -183,13 +177,9 @@ impl Rules for ByCallersNodes {
 
 #[test]
 fn judging_by_the_own_nodes_of_the_caller_is_told_apart() {
-    told_apart(
+    hosts_told_apart(
         &ByCallersNodes,
         &[
-            ("open 4 0", "ok 0", "ok 0"),
-            ("0 new_s_group 5 3", "group 5 3 0", "group 5 3 0"),
-            ("0 register_name 5 70 67108865", "true 0", "true 0"),
-            ("0 register_name 5 71 134217729", "true 0", "true 0"),
             (
                 "0 whereis_name 5 71",
                 "pid 134217729 21",
@@ -217,12 +207,9 @@ impl Rules for ByConnections {
 
 #[test]
 fn judging_by_connections_is_told_apart() {
-    told_apart(
+    hosts_told_apart(
         &ByConnections,
         &[
-            ("open 4 0", "ok 0", "ok 0"),
-            ("0 new_s_group 5 3", "group 5 3 0", "group 5 3 0"),
-            ("0 register_name 5 71 134217729", "true 0", "true 0"),
             ("0 send 5 71", "pid 134217729 21", "pid 134217729 21"),
             (
                 "1 whereis_name 5 71",
@@ -248,12 +235,9 @@ impl Rules for AfterTheConnection {
 
 #[test]
 fn judging_after_the_connection_is_told_apart() {
-    told_apart(
+    hosts_told_apart(
         &AfterTheConnection,
         &[
-            ("open 4 0", "ok 0", "ok 0"),
-            ("0 new_s_group 5 3", "group 5 3 0", "group 5 3 0"),
-            ("0 register_name 5 71 134217729", "true 0", "true 0"),
             (
                 "0 whereis_name 5 71",
                 "pid 134217729 21",
@@ -287,12 +271,9 @@ impl Rules for StrangersRefused {
 
 #[test]
 fn refusing_a_stranger_is_told_apart() {
-    told_apart(
+    hosts_told_apart(
         &StrangersRefused,
         &[
-            ("open 4 0", "ok 0", "ok 0"),
-            ("0 new_s_group 5 3", "group 5 3 0", "group 5 3 0"),
-            ("0 register_name 5 71 134217729", "true 0", "true 0"),
             ("0 whereis_name 5 71", "pid 134217729 21", "error 21"),
             ("3 send 0 5 71", "pid 134217729 21", "error 21"),
             ("3 own_nodes", "nodes 12 2 0", "nodes 8 1 0"),

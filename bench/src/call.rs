@@ -117,6 +117,14 @@ fn each(lent: &mut [Lent], asked: &[Asked], call: impl Fn(&mut Lent, &Asked) -> 
 }
 
 impl Which {
+    /// The lookups and sends by name.
+    pub const LOOKUPS: [Which; 4] = [
+        Which::WhereisName,
+        Which::WhereisNameAt,
+        Which::SendName,
+        Which::SendAt,
+    ];
+
     pub const COMMANDS: [Which; 15] = [
         Which::RegisterName,
         Which::ReRegisterName,

@@ -41,7 +41,8 @@ pub fn pick(prng: &mut Prng, set: u64) -> u32 {
     left.trailing_zeros()
 }
 
-/// Calls of the main case on this table. New names and groups are those between two that are there.
+/// Calls of the main case on this table. New names and groups are those between two that are there. A lookup finds a member's pid or a stranger's, as the
+/// hosts of the table are.
 pub fn main_cases(prng: &mut Prng, which: Which, words: &[u64], calls: usize) -> Vec<Asked> {
     let (nodes, groups) = (words[0], words[2]);
     (0..calls)
@@ -75,6 +76,11 @@ pub fn main_cases(prng: &mut Prng, which: Which, words: &[u64], calls: usize) ->
         .collect()
 }
 
+/// Whether a main case has this reason: 0, or 21 beside the pid that a lookup finds.
+fn of_main_case(which: Which, reason: u64) -> bool {
+    reason == 0 || reason == 21 && Which::LOOKUPS.contains(&which)
+}
+
 /// Nanoseconds a call of two sides. Every call finds the table as it was; the time of an empty turn is subtracted.
 pub fn timed(sides: Sides, which: Which, words: &[u64], asked: &[Asked]) -> (f64, f64) {
     let lent = std::cell::RefCell::new(vec![Lent::new(words); TURN]);
@@ -86,10 +92,12 @@ pub fn timed(sides: Sides, which: Which, words: &[u64], asked: &[Asked]) -> (f64
             (calls(api, which, &mut lent, turn(k)), lent)
         });
         assert!(outcome[0] == outcome[1], "{which:?} {:?}", turn(k));
-        assert_eq!(
-            outcome[0].0,
-            0,
-            "a main case has reason 0: {which:?} {:?}",
+        let (returned, lent) = &outcome[0];
+        let reasons: Vec<u64> = lent.iter().map(|own| own.answer[3]).collect();
+        let main = reasons.iter().all(|reason| of_main_case(which, *reason));
+        assert!(
+            main && *returned == reasons.iter().sum::<u64>(),
+            "no main case: {which:?} {:?}",
             turn(k)
         );
     }

@@ -1,5 +1,5 @@
 //! Times the proved library against plain Rust written for speed, in one run, and prints the ratios: `bench SEED [PROGRAM WORD..]`. First both are held to
-//! the same answers and words on random calls, removals, namespaces and launches, and to the same lines on the scripts; `bench agree SEED [PROGRAM WORD..]` does that
+//! the same answers and words on random calls, removals, lookups, namespaces and launches, and to the same lines on the scripts; `bench agree SEED [PROGRAM WORD..]` does that
 //! alone, and holds the stack of each call to its bar. `bench launch-file SEED` prints the launch file that is timed first.
 //! Needs target/native/libsgroup_c.a; `bench/run` builds it, and gives the words that run the script program.
 
@@ -14,6 +14,7 @@ mod plain;
 mod race;
 mod scripts;
 mod stack;
+mod strangers;
 mod tables;
 
 /// Walks of random calls on which both sides agree.
@@ -62,6 +63,13 @@ fn agree_on_removals(seed: u64) {
     println!("of these {none} drop no name, {some} some, {all} all");
 }
 
+fn agree_on_lookups(seed: u64) {
+    let strangers::Agreed { members, strangers } = strangers::agree(seed);
+    let lookups = members + strangers;
+    println!("{lookups} random lookups: the same answers and words");
+    println!("of these {members} find a member, {strangers} a stranger");
+}
+
 fn agree_on_launches(seed: u64) {
     let launches = launches::agree(seed);
     println!("{launches} random launches: the same answers, places and words");
@@ -84,6 +92,7 @@ fn print_launch_file(seed: u64) {
 fn agree_only(seed: u64, program: &[String]) {
     agree_on_calls(seed);
     agree_on_removals(seed);
+    agree_on_lookups(seed);
     agree_on_namespaces(seed);
     agree_on_launches(seed);
     hold_stack(seed);
@@ -100,6 +109,9 @@ fn times(seed: u64, program: &[String]) {
     println!();
     agree_on_removals(seed);
     leaving::times(seed);
+    println!();
+    agree_on_lookups(seed);
+    strangers::times(seed);
     commands::growth(seed);
     stack::depths(seed);
     println!();

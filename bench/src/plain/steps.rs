@@ -9,6 +9,7 @@ const TRUE: u64 = 2;
 const FALSE: u64 = 3;
 const ERROR: u64 = 4;
 const UNDEFINED: u64 = 5;
+const PID: u64 = 6;
 
 pub fn error(reason: u64) -> Answer {
     [ERROR, 0, 0, reason]
@@ -18,8 +19,8 @@ fn said(kind: u64, reason: u64) -> Answer {
     [kind, 0, 0, reason]
 }
 
-fn pid(p: u32) -> Answer {
-    [6, u64::from(p), 0, 0]
+fn pid(p: u32, reason: u64) -> Answer {
+    [PID, u64::from(p), 0, reason]
 }
 
 fn host(p: u32) -> usize {
@@ -299,10 +300,15 @@ pub fn registered_names(t: &Table, caller: u32, s: u32, out: &mut [u64]) -> Answ
     [9, names.len() as u64, 0, 0]
 }
 
+/// The pid of a name, with 21 where no member hosts it; which of both comes is not branched on.
 fn found(t: &Table, i: usize, n: u32) -> Answer {
     let names = &body(t, i)[..count(t, i)];
     match seat(names, n) {
-        Ok(at) => pid(names[at] as u32),
+        Ok(at) => {
+            let p = names[at] as u32;
+            let outside = !has(t[MEMBERS + i], p >> 26);
+            pid(p, 21 * u64::from(outside))
+        }
         Err(_) => said(UNDEFINED, 12),
     }
 }
@@ -345,11 +351,11 @@ pub fn send(t: &mut Table, caller: u32, p: u32) -> Answer {
         return error(7);
     }
     connect(t, caller as usize & 63, host(p) & 63);
-    pid(p)
+    pid(p, 0)
 }
 
 fn sent(t: &mut Table, caller: u32, answer: Answer) -> Answer {
-    if answer[0] == 6 {
+    if answer[0] == PID {
         connect(t, caller as usize & 63, host(answer[1] as u32) & 63);
     }
     answer

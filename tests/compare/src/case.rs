@@ -1,10 +1,11 @@
 //! One call with its lent runs, and how the library's outcome differs from the model's.
 
-use crate::library::{self, ANSWER_WORDS, NO_ROOM};
-use model::command::{Command, Request};
+use crate::library::{self, ANSWER_WORDS, NO_ROOM, PID};
+use model::answer::Reason;
+use model::command::{Command, Form, Request};
 use model::compare::outcome;
 use model::sound::failing_clauses;
-use model::state::PIDS_PER_HOST;
+use model::state::{host_of, PIDS_PER_HOST};
 use model::table::WORDS;
 
 /// A request with the runs that are lent to it.
@@ -87,6 +88,14 @@ pub fn difference(case: &Case) -> Option<String> {
         .or_else(|| test_differs(&case.table))
         .or_else(|| left_unsound(case, &ours))
         .or_else(|| wrote_on_refusal(case, &ours))
+        .or_else(|| linked_otherwise(case, &ours))
+}
+
+/// Whether the number returned is that of a refusal.
+pub fn refused(returned: u32) -> bool {
+    Reason::GRANTED
+        .iter()
+        .all(|reason| reason.number() != returned)
 }
 
 fn different_word(run: &str, ours: &[u64], theirs: &[u64]) -> Option<String> {
@@ -117,8 +126,27 @@ fn wrote_on_refusal(case: &Case, ours: &Ran) -> Option<String> {
         _ => None,
     };
     let table = connected.as_ref().unwrap_or(&case.table);
-    let wrote = ours.returned != 0 && (ours.table != *table || ours.out != case.out);
+    let wrote = refused(ours.returned) && (ours.table != *table || ours.out != case.out);
     wrote.then(|| format!("a refusal with reason {} left other words", ours.returned))
+}
+
+/// A lookup that finds a pid leaves the table as the caller's send to the asked node leaves it, and a send by name as one to the host leaves that. It is so
+/// with a stranger's pid as with a member's.
+fn linked_otherwise(case: &Case, ours: &Ran) -> Option<String> {
+    let Request::Call { caller, command } = &case.request else {
+        return None;
+    };
+    let form = command.form();
+    if refused(ours.returned) || !form.looks_up() {
+        return None;
+    }
+    let host =
+        matches!(form, Form::SendName | Form::SendNameAt).then(|| host_of(ours.answer[PID] as u32));
+    let linked = command.asked_node().into_iter().chain(host);
+    let table = linked.fold(case.table.clone(), |table, node| {
+        after_send(&table, *caller, node)
+    });
+    (ours.table != table).then(|| format!("reason {} left other words", ours.returned))
 }
 
 /// The table after the caller's send, through the library, to a pid of this node.

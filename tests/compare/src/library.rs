@@ -7,6 +7,8 @@ use model::state::word_of;
 pub const NO_ROOM: u32 = u32::MAX;
 /// Words that an answer takes: kind, first and second number, reason.
 pub const ANSWER_WORDS: usize = 4;
+/// The word of an answer that has the pid, where it is one.
+pub const PID: usize = 1;
 
 type Words = *const u64;
 type Run = *mut u64;

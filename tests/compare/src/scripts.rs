@@ -55,6 +55,7 @@ pub fn fixed() -> Vec<(&'static str, Vec<u8>)> {
         ("long-lines", long_lines()),
         ("full", full()),
         ("wide-lists", wide_lists()),
+        ("hosts", hosts()),
     ]
 }
 
@@ -135,5 +136,32 @@ fn wide_lists() -> Vec<u8> {
         ));
     }
     script.push_str("63 registered_names 65535\n0 own_nodes\n");
+    script.into_bytes()
+}
+
+/// Each of 64 nodes as a host, every other one a member: names 1 to 32 of s_group 7 and 33 to 64 of s_group 8, found by each of the four lookups, and
+/// again when all nodes have joined.
+fn hosts() -> Vec<u8> {
+    let odd = 0xAAAA_AAAA_AAAA_AAAAu64;
+    let mut script = format!("open 64 0\n1 new_s_group 7 {odd}\n1 new_s_group 8 {odd}\n");
+    let lookups = |name: u64| {
+        let group = 7 + (name - 1) / 32;
+        [
+            format!("1 whereis_name {group} {name}\n"),
+            format!("2 whereis_name 1 {group} {name}\n"),
+            format!("1 send {group} {name}\n"),
+            format!("2 send 1 {group} {name}\n"),
+        ]
+        .concat()
+    };
+    for name in 1..=64u64 {
+        let (group, pid) = (7 + (name - 1) / 32, name * 67_108_864 - 1);
+        script.push_str(&format!("1 register_name {group} {name} {pid}\n"));
+        script.push_str(&lookups(name));
+    }
+    for group in 7..=8 {
+        script.push_str(&format!("1 add_nodes {group} {}\n", u64::MAX));
+    }
+    script.extend((1..=64).map(lookups));
     script.into_bytes()
 }

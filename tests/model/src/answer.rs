@@ -28,12 +28,21 @@ pub enum Reason {
     NotLaunchFile = 18,
     Duplicates = 19,
     AtomNotInBook = 20,
+    HostOutside = 21,
 }
 
 impl Reason {
+    /// The reasons that are no refusal: 21 stands beside a pid in the place of 0.
+    pub const GRANTED: [Reason; 2] = [Reason::MainCase, Reason::HostOutside];
+
     /// 01's number for this reason.
     pub fn number(self) -> u32 {
         self as u32
+    }
+
+    /// Whether a call with this reason is refused.
+    pub fn refuses(self) -> bool {
+        !Reason::GRANTED.contains(&self)
     }
 
     /// Whether a call refused for this reason writes nothing at all. Under the

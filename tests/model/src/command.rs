@@ -92,6 +92,14 @@ impl Form {
         }
     }
 
+    /// Whether it looks up a name: the two lookups and the two sends by name.
+    pub fn looks_up(self) -> bool {
+        matches!(
+            self,
+            Form::WhereisName | Form::WhereisNameAt | Form::SendName | Form::SendNameAt
+        )
+    }
+
     /// Whether there are as many arguments as it takes, each of its width.
     fn takes(self, arguments: &[u64]) -> bool {
         let mut each = self.widths().iter().zip(arguments);
@@ -111,16 +119,20 @@ impl Form {
                 CallerOffRoster, GroupNameRange, ProcessNameZero, NodeOffRoster, NoSuchGroup,
                 NotMember, PidHeld, NamespaceFull,
             ],
-            Form::UnregisterName | Form::WhereisName | Form::SendName => &[
+            Form::UnregisterName => &[
                 CallerOffRoster, GroupNameRange, ProcessNameZero, NoSuchGroup, NotMember,
                 NameAbsent,
+            ],
+            Form::WhereisName | Form::SendName => &[
+                CallerOffRoster, GroupNameRange, ProcessNameZero, NoSuchGroup, NotMember,
+                NameAbsent, HostOutside,
             ],
             Form::RegisteredNames => &[
                 CallerOffRoster, GroupNameRange, NoSuchGroup, NotMember, ShortRun,
             ],
             Form::WhereisNameAt | Form::SendNameAt => &[
                 CallerOffRoster, GroupNameRange, ProcessNameZero, NodeOffRoster, NoSuchGroup,
-                NotMember, NameAbsent,
+                NotMember, NameAbsent, HostOutside,
             ],
             Form::SendPid => &[CallerOffRoster, NodeOffRoster],
             Form::NewSGroup => &[

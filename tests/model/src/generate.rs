@@ -27,6 +27,9 @@ enum Theme {
     /// Names of one group are registered for members and others, and their hosts
     /// are removed.
     Leaving,
+    /// Names of one group are registered for members and strangers and looked up,
+    /// and strangers join.
+    Strangers,
     /// Links among free, grouped and hidden nodes.
     Linking,
     /// Members link to several free groups and are then set free.
@@ -37,7 +40,7 @@ enum Theme {
     Asking,
 }
 
-const THEMES: [Theme; 19] = [
+const THEMES: [Theme; 22] = [
     Theme::Anything,
     Theme::Naming,
     Theme::Naming,
@@ -50,6 +53,9 @@ const THEMES: [Theme; 19] = [
     Theme::Leaving,
     Theme::Leaving,
     Theme::Leaving,
+    Theme::Strangers,
+    Theme::Strangers,
+    Theme::Strangers,
     Theme::Linking,
     Theme::Linking,
     Theme::Freeing,
@@ -193,7 +199,8 @@ impl Generator {
             self.prng.pick(&THEMES)
         };
         self.lines_left = match self.theme {
-            Theme::Filling | Theme::Crowding => 45 + self.prng.below(25),
+            Theme::Filling | Theme::Crowding => 50 + self.prng.below(25),
+            Theme::Strangers => 20 + self.prng.below(24),
             _ => 4 + self.prng.below(24),
         };
         self.focus = match self.group_names().as_slice() {
@@ -221,9 +228,7 @@ impl Generator {
         use Form::*;
         let groups = self.group_names();
         match self.theme {
-            Theme::Naming | Theme::Filling | Theme::Leaving if !groups.contains(&self.focus) => {
-                &[NewSGroup]
-            }
+            _ if self.focused() && !groups.contains(&self.focus) => &[NewSGroup],
             Theme::Growing | Theme::Freeing if groups.is_empty() => &[NewSGroup],
             Theme::Thinning if groups.is_empty() => &[SendPid],
             Theme::Anything => &Form::ALL,
@@ -236,6 +241,7 @@ impl Generator {
             Theme::Growing => &[NewSGroup, AddNodes, AddNodes],
             Theme::Thinning => &[RemoveNodes, RemoveNodes, DeleteSGroup, OwnNodes],
             Theme::Leaving => self.leaving_forms(),
+            Theme::Strangers => self.stranger_forms(),
             Theme::Linking => &[SendPid, SendPid, SendPid, OwnNodes],
             Theme::Freeing => &[
                 NewSGroup, SendPid, SendPid, SendPid, SendPid, DeleteSGroup, RemoveNodes, OwnNodes,
@@ -273,12 +279,26 @@ impl Generator {
         }
     }
 
+    /// Names first, then lookups, among which pids are replaced and nodes come and go.
+    #[rustfmt::skip]
+    fn stranger_forms(&self) -> &'static [Form] {
+        use Form::*;
+        if self.names_in(self.focus).len() < 3 {
+            &[RegisterName]
+        } else {
+            &[
+                WhereisName, WhereisName, WhereisNameAt, WhereisNameAt, SendName, SendName,
+                SendNameAt, SendNameAt, ReRegisterName, ReRegisterName, AddNodes, RemoveNodes,
+            ]
+        }
+    }
+
     /// A call of this form with arguments that mostly fit the state.
     fn call_of(&mut self, form: Form) -> Request {
         let s = self.group_name(form);
         let at = self.asked_node(s);
         let caller = self.caller(form, s);
-        let n = u64::from(self.process_name(s));
+        let n = u64::from(self.process_name(form, s));
         let p = u64::from(self.pid(s));
         let set = self.set_for(form, s, caller);
         let (at, s) = (u64::from(at), u64::from(s));
@@ -306,6 +326,14 @@ impl Generator {
 
     fn roster_size(&self) -> u64 {
         self.state().map_or(4, |state| state.nodes.len() as u64)
+    }
+
+    /// Whether the theme is about one s_group and its names.
+    fn focused(&self) -> bool {
+        matches!(
+            self.theme,
+            Theme::Naming | Theme::Filling | Theme::Leaving | Theme::Strangers
+        )
     }
 
     /// Whether links of members to free nodes are wanted.
@@ -340,8 +368,7 @@ impl Generator {
         if remote && self.prng.once_in(5) {
             return 0;
         }
-        let focused = matches!(self.theme, Theme::Naming | Theme::Filling | Theme::Leaving);
-        if focused && !self.prng.once_in(10) {
+        if self.focused() && !self.prng.once_in(10) {
             return self.focus;
         }
         let names = self.group_names();
@@ -416,16 +443,23 @@ impl Generator {
         names.into_iter().flatten().collect()
     }
 
-    fn process_name(&mut self, s: u32) -> u32 {
+    /// A name of the s_group or any other; where strangers are the theme, it is
+    /// mostly one of the first three, so that each is looked up again.
+    fn process_name(&mut self, form: Form, s: u32) -> u32 {
         if self.odd() {
             return self.prng.pick(&[0, 0, 1, u32::MAX - 1, u32::MAX]);
         }
-        let (held_often, span) = match self.theme {
-            Theme::Filling => (12, 100_000),
-            _ => (2, 60),
+        let (held, span) = match self.theme {
+            Theme::Filling => (self.prng.once_in(12), 100_000),
+            Theme::Strangers => (form != Form::RegisterName && !self.prng.once_in(8), 60),
+            _ => (self.prng.once_in(2), 60),
         };
-        match self.names_in(s).as_slice() {
-            names if !names.is_empty() && self.prng.once_in(held_often) => self.prng.pick(names).0,
+        let mut names = self.names_in(s);
+        if self.theme == Theme::Strangers {
+            names.truncate(3);
+        }
+        match names.as_slice() {
+            names if held && !names.is_empty() => self.prng.pick(names).0,
             _ if self.prng.once_in(10) => 1 + (self.prng.word() as u32 >> 1),
             _ => 1 + self.prng.below(span) as u32,
         }
@@ -447,11 +481,15 @@ impl Generator {
     }
 
     /// A node of the roster; where links are the theme, mostly a free normal one,
-    /// where hosts are to leave, mostly a member.
+    /// where hosts are to leave, mostly a member, where strangers are, seldom one.
     fn host(&mut self, s: u32) -> u32 {
         let members = self.members(s);
-        let leaving = matches!(self.theme, Theme::Filling | Theme::Leaving);
-        if leaving && !members.is_empty() && !self.prng.once_in(3) {
+        let inside = match self.theme {
+            Theme::Filling | Theme::Leaving => !self.prng.once_in(3),
+            Theme::Strangers => self.prng.once_in(3),
+            _ => false,
+        };
+        if inside && !members.is_empty() {
             return self.prng.pick(&members);
         }
         let free = self.free_groups();
@@ -468,11 +506,12 @@ impl Generator {
     }
 
     /// A set for the forms that take one; the caller is mostly in a new group, and
-    /// hosts of names are mostly removed.
+    /// hosts of names are mostly removed and often added.
     fn set_for(&mut self, form: Form, s: u32, caller: u32) -> u64 {
         let roster = u64::MAX >> (64 - self.roster_size());
         let hosts = match form {
             Form::RemoveNodes if !self.prng.once_in(3) => self.some_hosts(s),
+            Form::AddNodes if self.prng.once_in(2) => self.some_hosts(s),
             _ => None,
         };
         let mut set = hosts.unwrap_or_else(|| self.subset(s) & roster);

@@ -10,6 +10,7 @@
 //! - `state`: nodes, s_groups and free groups, and when they are well formed.
 //! - `rules`: the opening and the commands, as steps on the state.
 //! - `removal`: what a removal does to names, in kinds.
+//! - `stranger`: what a lookup finds of the host of a pid, in kinds.
 //! - `table`: the 1,220 words of a state, and the state of such words.
 //! - `sound`: soundness, clause by clause, over the words.
 //! - `script`: a script's bytes in, the printed bytes out.
@@ -38,4 +39,5 @@ pub mod script;
 pub mod shrink;
 pub mod sound;
 pub mod state;
+pub mod stranger;
 pub mod table;

@@ -55,6 +55,26 @@ pub trait Rules {
         unite(state, &parts);
     }
 
+    /// The pid that a lookup found. Its host is a stranger where it is not among the
+    /// members of the s_group in which the name was found.
+    fn tell(&self, state: &State, found: &Found) -> Answer {
+        let members = &state.s_groups[&found.s].members;
+        found.answer(!members.contains(&found.host()))
+    }
+
+    /// A send by name: the lookup, then send to the pid found.
+    fn send_found(&self, state: &mut State, found: &Found) -> Answer {
+        let answer = self.tell(state, found);
+        self.connect(state, found.caller, found.host());
+        answer
+    }
+
+    /// A send to a pid that is given.
+    fn send(&self, state: &mut State, caller: u32, pid: u32) -> Answer {
+        self.connect(state, caller, host_of(pid));
+        Answer::main_case(Value::Pid(pid))
+    }
+
     /// Drops the names that leave s with its members in the set: those whose pid
     /// is hosted on one of them. The members are still there.
     fn drop_names(&self, state: &mut State, s: u32, set: &NodeSet) {
@@ -70,6 +90,48 @@ pub trait Rules {
 pub struct Law;
 
 impl Rules for Law {}
+
+/// A pid that was found by its name.
+pub struct Found {
+    pub caller: u32,
+    /// The node that looks the name up: the caller or the node that it asks.
+    pub asker: u32,
+    /// The s_group in which the name was found.
+    pub s: u32,
+    pub pid: u32,
+}
+
+impl Found {
+    /// The host of the pid.
+    pub fn host(&self) -> u32 {
+        host_of(self.pid)
+    }
+
+    /// The pid, and beside it whether its host is a stranger.
+    pub fn answer(&self, stranger: bool) -> Answer {
+        Answer {
+            value: Value::Pid(self.pid),
+            reason: if stranger {
+                Reason::HostOutside
+            } else {
+                Reason::MainCase
+            },
+        }
+    }
+}
+
+/// What a call of this command finds by its name, if it names one that is there.
+pub fn found(state: &State, caller: u32, command: &Command) -> Option<Found> {
+    let (s, n) = (command.s_group()?, command.process_name()?);
+    let pid = *state.s_groups.get(&s)?.names.get(&n)?;
+    let asker = command.asked_node().unwrap_or(caller);
+    Some(Found {
+        caller,
+        asker,
+        s,
+        pid,
+    })
+}
 
 /// The free groups that have a node connected to any node of the lot.
 pub fn touching_groups(state: &State, lot: &NodeSet) -> Vec<NodeSet> {
@@ -116,7 +178,7 @@ pub fn call(
 ) -> Answer {
     let applying = applying(state, caller, command, room);
     match rules.choose(&applying) {
-        None => Answer::main_case(step(rules, state, caller, command)),
+        None => step(rules, state, caller, command),
         Some(reason) => {
             if !reason.writes_nothing() && rules.link_stays() {
                 connect_to_asked(rules, state, caller, command);
@@ -129,7 +191,7 @@ pub fn call(
     }
 }
 
-/// Every reason from 4 on that applies to this call.
+/// Every reason from 4 on for which this call is refused.
 pub fn applying(state: &State, caller: u32, command: &Command, room: usize) -> BTreeSet<Reason> {
     let asked = Asked {
         state,
@@ -150,7 +212,7 @@ struct Asked<'a> {
 }
 
 impl Asked<'_> {
-    /// Whether the line of this reason holds for the call.
+    /// Whether the call is refused by the line of this reason.
     fn holds(&self, reason: Reason) -> bool {
         match reason {
             Reason::CallerOffRoster => !self.state.on_roster(self.caller),
@@ -176,7 +238,8 @@ impl Asked<'_> {
             Reason::GroupNameInUse => self.group().is_some(),
             Reason::GroupsFull => self.state.s_groups.len() >= MOST_GROUPS,
             Reason::ShortRun => self.list_length() > self.room,
-            Reason::MainCase | Reason::RunLength | Reason::RosterSize | Reason::Unsound => false,
+            Reason::MainCase | Reason::HostOutside => false,
+            Reason::RunLength | Reason::RosterSize | Reason::Unsound => false,
             Reason::NotLaunchFile | Reason::Duplicates | Reason::AtomNotInBook => false,
         }
     }
@@ -236,7 +299,7 @@ impl Asked<'_> {
     }
 }
 
-/// The value that stands beside a reason other than 0.
+/// The value that stands beside a refusal.
 fn refused_value(form: Form, reason: Reason) -> Value {
     match reason {
         Reason::NoSuchGroup | Reason::NotMember => outsider_value(form),
@@ -258,10 +321,10 @@ fn outsider_value(form: Form) -> Value {
     }
 }
 
-/// The step of the main case, with its value.
-fn step(rules: &dyn Rules, state: &mut State, caller: u32, command: &Command) -> Value {
+/// The step of a call that is not refused, with its answer.
+fn step(rules: &dyn Rules, state: &mut State, caller: u32, command: &Command) -> Answer {
     connect_to_asked(rules, state, caller, command);
-    match command {
+    let value = match command {
         Command::RegisterName { s, n, p } | Command::ReRegisterName { s, n, p } => {
             names_of(state, *s).insert(*n, *p);
             Value::True
@@ -271,13 +334,14 @@ fn step(rules: &dyn Rules, state: &mut State, caller: u32, command: &Command) ->
             Value::True
         }
         Command::RegisteredNames { s } => registered_names(state, *s),
-        Command::WhereisName { s, n } | Command::WhereisNameAt { s, n, .. } => {
-            Value::Pid(names_of(state, *s)[n])
+        Command::WhereisName { .. } | Command::WhereisNameAt { .. } => {
+            let found = found(state, caller, command).expect("reason 12 is ruled out");
+            return rules.tell(state, &found);
         }
-        Command::SendPid { p } => send(rules, state, caller, *p),
-        Command::SendName { s, n } | Command::SendNameAt { s, n, .. } => {
-            let pid = names_of(state, *s)[n];
-            send(rules, state, caller, pid)
+        Command::SendPid { p } => return rules.send(state, caller, *p),
+        Command::SendName { .. } | Command::SendNameAt { .. } => {
+            let found = found(state, caller, command).expect("reason 12 is ruled out");
+            return rules.send_found(state, &found);
         }
         Command::NewSGroup { s, set } => new_s_group(rules, state, *s, set),
         Command::AddNodes { s, set } => add_nodes(rules, state, caller, *s, set),
@@ -285,7 +349,8 @@ fn step(rules: &dyn Rules, state: &mut State, caller: u32, command: &Command) ->
         Command::DeleteSGroup { s } => delete_s_group(rules, state, *s),
         Command::OwnNodes => Value::Nodes(own_nodes(state, caller)),
         Command::OwnSGroups => own_s_groups(state, caller),
-    }
+    };
+    Answer::main_case(value)
 }
 
 /// The first connection of the remote forms; the other forms have none.
@@ -304,11 +369,6 @@ fn names_of(state: &mut State, s: u32) -> &mut BTreeMap<u32, u32> {
 fn registered_names(state: &mut State, s: u32) -> Value {
     let entry = |n: &u32| (u64::from(s) << 32) + u64::from(*n);
     Value::List(names_of(state, s).keys().map(entry).collect())
-}
-
-fn send(rules: &dyn Rules, state: &mut State, caller: u32, pid: u32) -> Value {
-    rules.connect(state, caller, host_of(pid));
-    Value::Pid(pid)
 }
 
 fn new_s_group(rules: &dyn Rules, state: &mut State, s: u32, set: &NodeSet) -> Value {
@@ -365,7 +425,7 @@ fn become_free(rules: &dyn Rules, state: &mut State, left: &NodeSet) {
 
 /// The free normal group, or the node alone if hidden and free, or the union of
 /// the members of its s_groups.
-fn own_nodes(state: &State, caller: u32) -> NodeSet {
+pub fn own_nodes(state: &State, caller: u32) -> NodeSet {
     let names = state.group_names(caller);
     if !names.is_empty() {
         let members = names.iter().flat_map(|name| &state.s_groups[name].members);

@@ -1,12 +1,14 @@
 //! Comparison of the library with the model on random calls: `library SEED WALKS`, or `library again FILE..` for kept cases. Walk k has the seed
 //! SEED + k. Prints what was covered; a case that differs is made smaller and kept in tests/compare/kept/. The status is 0 where nothing differs, every
-//! reason that a command can have was seen, and everything that a removal can do to names.
+//! reason that a command can have was seen, everything that a removal can do to names, and every way in which a lookup can find a host.
 
-use compare::case::{difference, ran, Case};
+use compare::case::{difference, ran, refused, Case};
 use compare::random::{Kind, Walk, STEPS};
 use compare::{kept, smaller};
 use model::command::{Command, Form, Request};
 use model::removal::{effects, Effect};
+use model::state::State;
+use model::stranger::{Finding, Lookups};
 use model::table::state_of;
 use std::collections::BTreeMap;
 use std::fs;
@@ -58,6 +60,10 @@ struct Seen {
     /// How many removals were granted, and how often one did this to names.
     removals: usize,
     effects: BTreeMap<Effect, usize>,
+    /// The lookups of the walks, how many told a pid, and how often one found a host in this way.
+    lookups: Lookups,
+    told: usize,
+    findings: BTreeMap<Finding, usize>,
 }
 
 impl Seen {
@@ -69,34 +75,55 @@ impl Seen {
         };
         let reason = ran(case).returned;
         *self.reasons.entry((form, reason)).or_default() += 1;
-        if reason == 0 {
-            self.take_removal(case);
+        self.take_call(kind, case, reason);
+    }
+
+    /// Notes what a call does to names and what it finds; a call that is granted has a sound table.
+    fn take_call(&mut self, kind: Kind, case: &Case, reason: u32) {
+        let Request::Call { caller, command } = &case.request else {
+            return;
+        };
+        if kind != Kind::Sound && refused(reason) {
+            return;
+        }
+        let Ok(before) = state_of(&case.table) else {
+            return;
+        };
+        self.take_removal(&before, *caller, command, reason);
+        if kind == Kind::Sound {
+            self.take_lookup(&before, *caller, command, reason);
         }
     }
 
     /// Notes what a granted removal does to names.
-    fn take_removal(&mut self, case: &Case) {
-        let Request::Call { caller, command } = &case.request else {
-            return;
-        };
-        let Command::RemoveNodes { s, set } = command else {
-            return;
-        };
-        let Ok(before) = state_of(&case.table) else {
+    fn take_removal(&mut self, before: &State, caller: u32, command: &Command, reason: u32) {
+        let (Command::RemoveNodes { s, set }, false) = (command, refused(reason)) else {
             return;
         };
         self.removals += 1;
-        for effect in effects(&before, *caller, *s, set) {
+        for effect in effects(before, caller, *s, set) {
             *self.effects.entry(effect).or_default() += 1;
+        }
+    }
+
+    /// Notes how a granted lookup of a walk finds the host.
+    fn take_lookup(&mut self, before: &State, caller: u32, command: &Command, reason: u32) {
+        let granted = !refused(reason);
+        self.told += usize::from(granted && command.form().looks_up());
+        for finding in self.lookups.findings(before, caller, command, granted) {
+            *self.findings.entry(finding).or_default() += 1;
         }
     }
 
     /// What never came.
     fn missing(&self) -> Vec<String> {
         let effects = Effect::ALL.into_iter();
-        let never = effects.filter(|effect| !self.effects.contains_key(effect));
+        let never_done = effects.filter(|effect| !self.effects.contains_key(effect));
+        let findings = Finding::ALL.into_iter();
+        let never_found = findings.filter(|finding| !self.findings.contains_key(finding));
         let mut missing = self.missing_reasons();
-        missing.extend(never.map(|effect| format!("RemoveNodes {effect:?}")));
+        missing.extend(never_done.map(|effect| format!("RemoveNodes {effect:?}")));
+        missing.extend(never_found.map(|finding| format!("lookup {finding:?}")));
         missing
     }
 
@@ -142,10 +169,12 @@ fn walked(seed: u64, walks: u64) -> ExitCode {
 fn covered(seen: &Seen) -> ExitCode {
     let missing = seen.missing();
     println!(
-        "library: {} pairs of command and reason seen; {} removals {:?}; {} missing",
+        "library: {} pairs of command and reason seen; {} removals {:?}; {} lookups {:?}; {} missing",
         seen.reasons.len(),
         seen.removals,
         seen.effects,
+        seen.told,
+        seen.findings,
         missing.len()
     );
     for what in &missing {

@@ -105,7 +105,7 @@ fn process_names_and_pids_at_the_edge() {
         ("0 register_name 5 4294967295 4294967295", "true 0"),
         ("0 register_name 5 1 0", "true 0"),
         ("0 registered_names 5", "list 2 21474836481 25769803775 0"),
-        ("0 send 5 4294967295", "pid 4294967295 0"),
+        ("0 send 5 4294967295", "pid 4294967295 21"),
         ("open 63 0", "ok 0"),
         ("0 send 4227858431", "pid 4227858431 0"),
         ("0 send 4227858432", "error 7"),
@@ -174,7 +174,7 @@ fn a_pid_may_be_hosted_outside_its_group() {
         &named_group(),
         &[
             ("0 register_name 5 71 201326592", "true 0"),
-            ("1 whereis_name 5 71", "pid 201326592 0"),
+            ("1 whereis_name 5 71", "pid 201326592 21"),
         ],
     );
 }

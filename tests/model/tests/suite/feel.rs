@@ -84,7 +84,7 @@ fn compared(one: &State, request: &Request, others: &mut Generator) -> Option<An
 fn answers_about_a_group_depend_on_it_alone() {
     let first = seed();
     let mut by_reason = BTreeMap::new();
-    for seed in first..first + rounds(60) {
+    for seed in first..first + rounds(120) {
         let mut generator = Generator::new(seed);
         let mut others = Generator::new(!seed);
         for _ in 0..60 {
@@ -96,5 +96,5 @@ fn answers_about_a_group_depend_on_it_alone() {
         }
     }
     println!("answers compared by reason: {by_reason:?}");
-    assert!(by_reason[&0] > 100);
+    assert!(by_reason[&0] > 100 && by_reason[&21] > 10);
 }

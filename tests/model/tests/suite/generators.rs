@@ -11,6 +11,7 @@ use model::script::{parse, run_with, LONGEST_SCRIPT};
 use model::shrink::shrunk;
 use model::sound::failing_clauses;
 use model::state::{NodeSet, State};
+use model::stranger::{Finding, Lookups};
 use std::cell::{Cell, RefCell};
 use std::collections::{BTreeMap, BTreeSet};
 
@@ -70,18 +71,23 @@ impl Reached {
     }
 }
 
-#[test]
-fn every_reason_of_every_command_is_reached() {
+/// Shows every well formed line of 300 random scripts of 200 lines.
+fn on_every_step(note: impl FnMut(&Seen)) {
     let first = seed();
-    let reached = RefCell::new(Reached::default());
+    let note = RefCell::new(note);
     for seed in first..first + rounds(300) {
-        let note = |seen: &Seen| {
-            reached.borrow_mut().note(seen);
+        let show = |seen: &Seen| {
+            note.borrow_mut()(seen);
             Ok(())
         };
-        each_step(&script(seed, 180), &note).expect("bad lines change nothing");
+        each_step(&script(seed, 200), &show).expect("bad lines change nothing");
     }
-    let reached = reached.into_inner();
+}
+
+#[test]
+fn every_reason_of_every_command_is_reached() {
+    let mut reached = Reached::default();
+    on_every_step(|seen| reached.note(seen));
     let missing: Vec<_> = reachable().difference(&reached.reasons).copied().collect();
     assert_eq!(missing, []);
     assert!(reached.reasons.is_subset(&reachable()));
@@ -194,20 +200,47 @@ impl Removals {
 
 #[test]
 fn removals_drop_and_keep_names_in_every_way() {
-    let first = seed();
-    let removals = RefCell::new(Removals::default());
-    for seed in first..first + rounds(300) {
-        let note = |seen: &Seen| {
-            removals.borrow_mut().note(seen);
-            Ok(())
-        };
-        each_step(&script(seed, 200), &note).expect("bad lines change nothing");
-    }
-    let removals = removals.into_inner();
+    let mut removals = Removals::default();
+    on_every_step(|seen| removals.note(seen));
     println!("{} granted: {:?}", removals.granted, removals.effects);
     for effect in Effect::ALL {
         let times = removals.effects.get(&effect).copied().unwrap_or(0);
         assert!(times >= 5, "{effect:?}: {times}");
+    }
+}
+
+/// What lookups found of hosts while scripts ran.
+#[derive(Default)]
+struct Hosts {
+    lookups: Lookups,
+    told: BTreeMap<Reason, u32>,
+    findings: BTreeMap<Finding, u32>,
+}
+
+impl Hosts {
+    fn note(&mut self, seen: &Seen) {
+        let (Some(before), Request::Call { caller, command }) = (&seen.before, &seen.request)
+        else {
+            return;
+        };
+        let granted = !seen.answer.reason.refuses();
+        if granted && command.form().looks_up() {
+            *self.told.entry(seen.answer.reason).or_default() += 1;
+        }
+        for finding in self.lookups.findings(before, *caller, command, granted) {
+            *self.findings.entry(finding).or_default() += 1;
+        }
+    }
+}
+
+#[test]
+fn lookups_find_members_and_strangers_in_every_way() {
+    let mut hosts = Hosts::default();
+    on_every_step(|seen| hosts.note(seen));
+    println!("told {:?}: {:?}", hosts.told, hosts.findings);
+    for finding in Finding::ALL {
+        let times = hosts.findings.get(&finding).copied().unwrap_or(0);
+        assert!(times >= 5, "{finding:?}: {times}");
     }
 }
 

@@ -68,10 +68,20 @@ pub fn expect_after(before: &[String], lines: &[(&str, &str)]) {
 }
 
 /// What a script of these lines prints under these rules, line by line.
-pub fn printed_under(rules: &dyn Rules, lines: &[&str]) -> Vec<String> {
+fn printed_under(rules: &dyn Rules, lines: &[&str]) -> Vec<String> {
     let mut session = Session::new(rules);
     let print = |line: &&str| session.print(format!("{line}\n").as_bytes());
     lines.iter().map(print).collect()
+}
+
+/// What a script prints under the documents and under a wrong reading.
+pub fn told_apart(wrong: &dyn Rules, script: &[(&str, &str, &str)]) {
+    let lines: Vec<&str> = script.iter().map(|(line, _, _)| *line).collect();
+    let by_law: Vec<&str> = script.iter().map(|(_, law, _)| *law).collect();
+    let by_wrong: Vec<&str> = script.iter().map(|(_, _, wrong)| *wrong).collect();
+    assert_eq!(printed_under(&Law, &lines), by_law);
+    assert_eq!(printed_under(wrong, &lines), by_wrong);
+    assert_ne!(by_law, by_wrong);
 }
 
 /// What a whole script prints, as text.

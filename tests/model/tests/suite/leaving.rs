@@ -60,10 +60,10 @@ fn a_node_of_the_set_that_is_no_member_takes_nothing_along() {
         &hosted_group(),
         &[
             ("0 remove_nodes 5 8", "true 0"),
-            ("0 whereis_name 5 40", "pid 201326599 0"),
+            ("0 whereis_name 5 40", "pid 201326599 21"),
             ("0 remove_nodes 5 26", "true 0"),
             ("0 whereis_name 5 20", "undefined 12"),
-            ("0 whereis_name 5 40", "pid 201326599 0"),
+            ("0 whereis_name 5 40", "pid 201326599 21"),
         ],
     );
 }
@@ -76,9 +76,9 @@ fn a_node_that_left_before_takes_nothing_along() {
             ("0 remove_nodes 5 2", "true 0"),
             ("0 register_name 5 20 67108872", "true 0"),
             ("0 remove_nodes 5 2", "true 0"),
-            ("0 whereis_name 5 20", "pid 67108872 0"),
+            ("0 whereis_name 5 20", "pid 67108872 21"),
             ("0 remove_nodes 5 6", "true 0"),
-            ("0 whereis_name 5 20", "pid 67108872 0"),
+            ("0 whereis_name 5 20", "pid 67108872 21"),
             ("0 whereis_name 5 30", "undefined 12"),
         ],
     );
@@ -90,7 +90,7 @@ fn a_name_hosted_outside_stays_until_its_host_joins_and_leaves() {
         &hosted_group(),
         &[
             ("0 remove_nodes 5 6", "true 0"),
-            ("0 whereis_name 5 40", "pid 201326599 0"),
+            ("0 whereis_name 5 40", "pid 201326599 21"),
             ("0 add_nodes 5 8", "group 5 8 0"),
             ("0 whereis_name 5 40", "pid 201326599 0"),
             ("0 remove_nodes 5 8", "true 0"),
@@ -205,7 +205,7 @@ fn a_dropped_name_and_its_pid_may_be_registered_again() {
             ("0 remove_nodes 5 2", "true 0"),
             ("0 register_name 5 20 1", "true 0"),
             ("0 register_name 5 21 67108871", "true 0"),
-            ("0 whereis_name 5 21", "pid 67108871 0"),
+            ("0 whereis_name 5 21", "pid 67108871 21"),
         ],
     );
 }
@@ -242,7 +242,7 @@ fn a_hidden_member_leaves_with_its_names_too() {
         ("63 remove_nodes 65535 9223372036854775808", "true 0"),
         ("0 whereis_name 65535 1", "undefined 12"),
         ("0 whereis_name 65535 2", "undefined 12"),
-        ("0 whereis_name 65535 3", "pid 4227858431 0"),
+        ("0 whereis_name 65535 3", "pid 4227858431 21"),
     ]);
 }
 

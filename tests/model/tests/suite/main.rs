@@ -15,4 +15,6 @@ mod programs;
 mod runs;
 mod soundness;
 mod steps;
+mod strangers;
 mod wrong_readings;
+mod wrong_strangers;

@@ -2,7 +2,7 @@
 //! three nodes that commands can reach.
 
 use crate::helpers::{each_step, holds, kept_scripts, on_random_scripts, same, words_of_run, Seen};
-use model::answer::Answer;
+use model::answer::{Answer, Reason, Value};
 use model::command::{Command, Form, Request};
 use model::compare::{outcome, Outcome};
 use model::rules::{call, Law, Rules};
@@ -15,7 +15,7 @@ use std::collections::{BTreeMap, BTreeSet};
 type Check = fn(&[u8]) -> Result<(), String>;
 
 /// Every check on a whole script, with the name under which failures are kept.
-const CHECKS: [(&str, Check); 8] = [
+const CHECKS: [(&str, Check); 10] = [
     ("soundness", keeps_soundness),
     ("refusals", refusals_write_nothing),
     ("inverse", layout_and_reading_are_inverse),
@@ -24,6 +24,8 @@ const CHECKS: [(&str, Check); 8] = [
     ("asking", asking_writes_nothing),
     ("naming", naming_stays_in_its_words),
     ("leaving", names_leave_with_their_host),
+    ("strangers", strangers_are_told),
+    ("members", members_stay_no_strangers),
 ];
 
 fn on_scripts(name: &str) {
@@ -57,7 +59,7 @@ fn every_command_keeps_soundness() {
 /// A refused call leaves the table, but for a remote form's connection.
 fn refusals_write_nothing(script: &[u8]) -> Result<(), String> {
     each_step(script, &|seen: &Seen| {
-        if seen.answer.reason.number() == 0 {
+        if !seen.answer.reason.refuses() {
             return Ok(());
         }
         let mut expected = seen.before.clone();
@@ -262,6 +264,75 @@ fn names_left(old: &SGroup, new: &SGroup) -> BTreeMap<u32, u32> {
 #[test]
 fn names_leave_with_their_host_alone() {
     on_scripts("leaving");
+}
+
+/// Whether a pid is hosted outside an s_group.
+fn outside(group: &SGroup, pid: u32) -> bool {
+    group.members.iter().all(|member| *member != host_of(pid))
+}
+
+/// 21 stands beside a pid that a lookup finds, exactly where its host is no
+/// member. The caller is connected to the node that it asks, and by a send to the
+/// host, whatever is told.
+fn strangers_are_told(script: &[u8]) -> Result<(), String> {
+    each_step(script, &|seen: &Seen| {
+        let (Some(before), Request::Call { caller, command }) = (&seen.before, &seen.request)
+        else {
+            return Ok(());
+        };
+        let told = seen.answer.reason == Reason::HostOutside;
+        let (Value::Pid(pid), true) = (&seen.answer.value, command.form().looks_up()) else {
+            return holds(!told, "21 beside something else");
+        };
+        let group = &before.s_groups[&command.s_group().unwrap_or(0)];
+        same(
+            &told,
+            &outside(group, *pid),
+            "a stranger is not told, or a member is",
+        )?;
+        let mut expected = before.clone();
+        if let Some(at) = command.asked_node() {
+            Law.connect(&mut expected, *caller, at);
+        }
+        if matches!(command.form(), Form::SendName | Form::SendNameAt) {
+            Law.connect(&mut expected, *caller, host_of(*pid));
+        }
+        same(&seen.after.as_ref(), &Some(&expected), "other connections")
+    })
+}
+
+#[test]
+fn lookups_tell_strangers_and_connect_as_ever() {
+    on_scripts("strangers");
+}
+
+/// A name that stays with its pid is no stranger's where it was a member's.
+fn members_stay_no_strangers(script: &[u8]) -> Result<(), String> {
+    each_step(script, &|seen: &Seen| {
+        let (Some(before), Some(after)) = (&seen.before, &seen.after) else {
+            return Ok(());
+        };
+        if matches!(seen.request, Request::Open { .. }) {
+            return Ok(());
+        }
+        let stranger_now = |(s, old): (&u32, &SGroup)| {
+            after.s_groups.get(s).is_some_and(|new| {
+                let stayed = old
+                    .names
+                    .iter()
+                    .filter(|(n, p)| new.names.get(n) == Some(p));
+                let mut inside = stayed.filter(|(_, p)| !outside(old, **p));
+                inside.any(|(_, p)| outside(new, *p))
+            })
+        };
+        let became = before.s_groups.iter().any(stranger_now);
+        holds(!became, "a member's name became a stranger's")
+    })
+}
+
+#[test]
+fn a_members_name_becomes_a_strangers_by_re_registering_alone() {
+    on_scripts("members");
 }
 
 #[test]

@@ -2,22 +2,12 @@
 //! their node, each as other rules for the model, and a script that tells each
 //! of them apart.
 
-use crate::helpers::{printed_under, request};
+use crate::helpers::{request, told_apart};
 use model::answer::Reason;
 use model::rules::{touching_groups, unite, Law, Rules};
 use model::script::Session;
 use model::state::{host_of, NodeSet, SGroup, State};
 use std::collections::BTreeSet;
-
-/// What a script prints under the documents and under a wrong reading.
-fn told_apart(wrong: &dyn Rules, script: &[(&str, &str, &str)]) {
-    let lines: Vec<&str> = script.iter().map(|(line, _, _)| *line).collect();
-    let by_law: Vec<&str> = script.iter().map(|(_, law, _)| *law).collect();
-    let by_wrong: Vec<&str> = script.iter().map(|(_, _, wrong)| *wrong).collect();
-    assert_eq!(printed_under(&Law, &lines), by_law);
-    assert_eq!(printed_under(wrong, &lines), by_wrong);
-    assert_ne!(by_law, by_wrong);
-}
 
 /// Takes nodes out of a free group one by one, each from the whole group.
 struct OneByOne;
@@ -219,7 +209,7 @@ fn names_that_stay_are_told_apart() {
             ("0 new_s_group 5 3", "group 5 3 0", "group 5 3 0"),
             ("0 register_name 5 70 67108865", "true 0", "true 0"),
             ("0 remove_nodes 5 2", "true 0", "true 0"),
-            ("0 whereis_name 5 70", "undefined 12", "pid 67108865 0"),
+            ("0 whereis_name 5 70", "undefined 12", "pid 67108865 21"),
             ("0 register_name 5 70 67108866", "true 0", "false 10"),
         ],
     );
@@ -245,7 +235,7 @@ fn dropping_names_of_the_whole_set_is_told_apart() {
             ("0 register_name 5 71 134217729", "true 0", "true 0"),
             ("0 remove_nodes 5 6", "true 0", "true 0"),
             ("0 whereis_name 5 70", "undefined 12", "undefined 12"),
-            ("0 whereis_name 5 71", "pid 134217729 0", "undefined 12"),
+            ("0 whereis_name 5 71", "pid 134217729 21", "undefined 12"),
         ],
     );
 }
@@ -303,7 +293,7 @@ fn dropping_names_hosted_outside_is_told_apart() {
             ("0 register_name 5 71 134217729", "true 0", "true 0"),
             ("0 remove_nodes 5 2", "true 0", "true 0"),
             ("0 whereis_name 5 70", "undefined 12", "undefined 12"),
-            ("0 whereis_name 5 71", "pid 134217729 0", "undefined 12"),
+            ("0 whereis_name 5 71", "pid 134217729 21", "undefined 12"),
         ],
     );
 }
@@ -331,7 +321,7 @@ fn dropping_names_of_freed_nodes_only_is_told_apart() {
             ("0 register_name 5 70 67108865", "true 0", "true 0"),
             ("0 register_name 5 71 134217729", "true 0", "true 0"),
             ("0 remove_nodes 5 6", "true 0", "true 0"),
-            ("0 whereis_name 5 70", "undefined 12", "pid 67108865 0"),
+            ("0 whereis_name 5 70", "undefined 12", "pid 67108865 21"),
             ("0 whereis_name 5 71", "undefined 12", "undefined 12"),
         ],
     );

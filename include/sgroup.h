@@ -15,7 +15,12 @@
  *
  * The answer is four words, which each function that takes `answer` writes there: kind, first number, second number, reason; numbers that a kind doesn't
  * have are 0. It returns the reason. Where `answer` has fewer than four words nothing is called, nothing is written, and SGROUP_NO_ROOM is returned. The
- * words of a list go to a run of their own, the list run `out`. */
+ * words of a list go to a run of their own, the list run `out`.
+ *
+ * Success is SGROUP_DONE (0). The four functions that look a name up (sgroup_whereis_name, sgroup_whereis_name_at, sgroup_send_name, sgroup_send_at) have
+ * SGROUP_HOST_OUTSIDE (21) as well, in place of 0 where the host of the pid that they find is not a member of the s_group: the kind is SGROUP_PID, the pid may
+ * be used, and all is done as with 0. So test a lookup by its kind, or for both reasons. Every other reason is a refusal, also the 12 that
+ * sgroup_unregister_name gives with TRUE: there was nothing to take out. */
 #ifndef SGROUP_H
 #define SGROUP_H
 
@@ -69,7 +74,8 @@ enum sgroup_reason {
     SGROUP_LIST_SHORT = 17,       /* the list run is shorter than the list */
     SGROUP_NO_LAUNCH_FILE = 18,   /* launching: the book is no book, or the file is no launch file */
     SGROUP_GROUPS_DIFFER = 19,    /* launching: groups of one name with other nodes, one of them with the starting node */
-    SGROUP_ATOM_UNKNOWN = 20      /* launching: an atom of a group that is made is not in its part of the book */
+    SGROUP_ATOM_UNKNOWN = 20,     /* launching: an atom of a group that is made is not in its part of the book */
+    SGROUP_HOST_OUTSIDE = 21      /* no refusal: the pid that was found has its host outside the s_group */
 };
 
 /* Whether the run is a sound table. Writes nothing. */
@@ -104,23 +110,24 @@ uint32_t sgroup_unregister_name(uint64_t *table, size_t table_len, uint32_t call
 uint32_t sgroup_registered_names(const uint64_t *table, size_t table_len, uint32_t caller, uint32_t s, uint64_t *out, size_t out_len,
                                  uint64_t *answer, size_t answer_len);
 
-/* What the caller finds under n in s. PID. Reasons 8, 9 and 12: UNDEFINED. */
+/* What the caller finds under n in s. PID, with reason 21 where its host is not a member of s. Reasons 8, 9 and 12: UNDEFINED. */
 uint32_t sgroup_whereis_name(const uint64_t *table, size_t table_len, uint32_t caller, uint32_t s, uint32_t n, uint64_t *answer,
                              size_t answer_len);
 
-/* What `node` finds under n in s; 0 is taken for s and finds nothing. The caller connects with `node`, found or not. PID. Reasons 8, 9 and 12:
- * UNDEFINED. */
+/* What `node` finds under n in s; 0 is taken for s and finds nothing. The caller connects with `node`, found or not. PID, with reason 21 where its
+ * host is not a member of s. Reasons 8, 9 and 12: UNDEFINED. */
 uint32_t sgroup_whereis_name_at(uint64_t *table, size_t table_len, uint32_t caller, uint32_t node, uint32_t s, uint32_t n, uint64_t *answer,
                                 size_t answer_len);
 
-/* The caller sends to the pid p, and connects with its host. PID. */
+/* The caller sends to the pid p, and connects with its host. PID; never with reason 21, since no s_group is named. */
 uint32_t sgroup_send(uint64_t *table, size_t table_len, uint32_t caller, uint32_t p, uint64_t *answer, size_t answer_len);
 
-/* The caller sends to the pid that it finds under n in s, and connects with its host. PID. Reasons 8, 9 and 12: UNDEFINED. */
+/* The caller sends to the pid that it finds under n in s, and connects with its host. PID, with reason 21 where that host is not a member of s.
+ * Reasons 8, 9 and 12: UNDEFINED. */
 uint32_t sgroup_send_name(uint64_t *table, size_t table_len, uint32_t caller, uint32_t s, uint32_t n, uint64_t *answer, size_t answer_len);
 
-/* The caller sends to the pid that `node` finds under n in s, as sgroup_whereis_name_at, and connects with its host. PID.
- * Reasons 8, 9 and 12: UNDEFINED. */
+/* The caller sends to the pid that `node` finds under n in s, as sgroup_whereis_name_at, and connects with its host. PID, with reason 21 where that
+ * host is not a member of s. Reasons 8, 9 and 12: UNDEFINED. */
 uint32_t sgroup_send_at(uint64_t *table, size_t table_len, uint32_t caller, uint32_t node, uint32_t s, uint32_t n, uint64_t *answer,
                         size_t answer_len);
 

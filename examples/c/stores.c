@@ -1,10 +1,11 @@
-/* Two museum stores have a glyph server of the same name. Printers find the one of their own s_group; a visitor has to ask a member. */
+/* Two museum stores have a glyph server of the same name. Printers find the one of their own s_group; a visitor has to ask a member. One store has a font
+ * server too, which runs outside its s_group. */
 #include "sgroup.h"
 
 #include <inttypes.h>
 #include <stdio.h>
 
-enum { HARBOUR = 5, HILL = 6, GLYPH_SERVER = 70, PIDS_PER_HOST = 67108864 };
+enum { HARBOUR = 5, HILL = 6, GLYPH_SERVER = 70, FONT_SERVER = 71, PIDS_PER_HOST = 67108864 };
 
 static uint64_t table[SGROUP_TABLE_WORDS];
 static uint64_t answer[SGROUP_ANSWER_WORDS];
@@ -44,6 +45,12 @@ int main(void) {
     say("printer 2 looks in the harbour store");
     sgroup_whereis_name_at(table, SGROUP_TABLE_WORDS, 4, 0, HARBOUR, GLYPH_SERVER, answer, SGROUP_ANSWER_WORDS);
     say("visitor 4 asks node 0 for the harbour store's");
+    sgroup_register_name(table, SGROUP_TABLE_WORDS, 1, HARBOUR, FONT_SERVER, 4u * PIDS_PER_HOST + 1, answer, SGROUP_ANSWER_WORDS);
+    say("the harbour store's font server on node 4");
+    uint32_t reason = sgroup_send_name(table, SGROUP_TABLE_WORDS, 0, HARBOUR, FONT_SERVER, answer, SGROUP_ANSWER_WORDS);
+    say("printer 0 sends to the font server");
+    if (reason == SGROUP_HOST_OUTSIDE)
+        printf("it runs on node %" PRIu64 ", outside the store\n", answer[1] / PIDS_PER_HOST);
     sgroup_registered_names(table, SGROUP_TABLE_WORDS, 0, HARBOUR, list, 64, answer, SGROUP_ANSWER_WORDS);
     say("names in the harbour store");
     sgroup_registered_names(table, SGROUP_TABLE_WORDS, 0, HARBOUR, list, 0, answer, SGROUP_ANSWER_WORDS);

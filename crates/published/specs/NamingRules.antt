@@ -19,7 +19,7 @@ use Rattle.semantics.specs.GroupCommands.{register-name, re-register-name, unre
 use Rattle.semantics.specs.Ranges.{held}
 use Rattle.semantics.specs.Steps.{Result, Outcome, hold, apply, done, say, settle, inside, full, look-reason, name-words, listed}
 use Rattle.answers.specs.declared.Value.the-variants.{True, False, Error, Undefined, Listed}
-use Rattle.answers.specs.declared.Reason.the-variants.{Done, NameZero, NodeUnknown, NotMember, NameTaken, PidTaken, NotRegistered, NamespaceFull, RunShort}
+use Rattle.answers.specs.declared.Reason.the-variants.{NameZero, NodeUnknown, NotMember, NameTaken, PidTaken, NotRegistered, NamespaceFull, RunShort}
 use Rattle.semantics.specs.Regular.{Regular}
 use Rattle.semantics.specs.NamesKept.{not-held}
 use Rattle.semantics.specs.Changed.{regular-found}

@@ -1,7 +1,7 @@
 -- Strangers (02, request 3). Beside the pid of a lookup stands 21 exactly where its host is not a member of the s_group in which the name was looked up, and
 -- 0 where it is one. No other answer has 21. A call that says it does what it does with 0. Assumes nothing.
 use mathlib.Core.Path.{_≡_, refl, sym, ap, _∙_, subst}
-use mathlib.Core.Logic.{_↔_, _⊎_, inl, inr}
+use mathlib.Core.Logic.{_↔_, _⊎_, inl, inr, ⊎-elim}
 use mathlib.Core.Bool.{Bool, true, false, _&&_, _||_, cond, true≢false, false≢true, and-eq-true-iff}
 use mathlib.Core.Option.{Option, none, some}
 use mathlib.Core.List.{List, [], _∷_}
@@ -26,8 +26,7 @@ use Rattle.semantics.specs.Agree.{sound-iff}
 use Rattle.semantics.specs.FirstReason.{Test, first}
 use Rattle.semantics.specs.Fits.{Fits}
 use Rattle.semantics.specs.Asks.{Looks, lookup-here, lookup-at, send-here, send-at, Looks-none}
-use Rattle.semantics.specs.Lookups.{Found-in, pid-of, Told, asker, lookup-told}
-use Rattle.semantics.specs.Steps.{ask}
+use Rattle.semantics.specs.Lookups.{pid-of, Told, asker, lookup-told}
 use Rattle.semantics.specs.Call.{Call, call}
 use Rattle.semantics.specs.Calls.{call-sound, calls-keep-sound}
 use Rattle.published.specs.Published as P
@@ -51,38 +50,36 @@ pub beside-outside : (x : Bool) → beside x ≡ HostOutside → x ≡ false
 beside-outside true e = let z : number Done ≡ number HostOutside = ap number e in absurd (omega arith)
 beside-outside false e = refl
 
+-- an answer to a lookup in s: a pid, and whether its host is a member of s; or a refusal, without a pid
+abbrev pub Pid-or-refused : ℕ → Published → Answer → Type 0
+Pid-or-refused s X a =
+    ((p : ℕ) × (a ≡ answer-of (Pid p) (beside (IsSGroupSNode (host p) s (X .grs))))) ⊎ ((refuses (a .reason) ≡ true) × (pid-of (a .value) ≡ none))
+
 -- ---- the four lookups
 
 module _ (room i : ℕ) {c : Command} {s n : ℕ} (k : Looks c s n) (t : List ℕ) (h : Sound names-per-group t) where
   abbrev heard : Answer
   heard = call room i c t .answer
 
-  told-here : Told (asker k i) s n (state-of names-per-group t) heard
-  told-here =
-      subst (λ (x : Call). Told (asker k i) s n (state-of names-per-group t) (x .answer)) (sym (call-sound room i c t (sound-iff names-per-group t .1 h)))
-      (lookup-told room i k (state-of names-per-group t))
-
   -- the members of s
   members-seen : (g : Group) → find s (state-of names-per-group t .groups) ≡ some g → (m : ℕ) → has (g .members) m ≡ IsSGroupSNode m s (seen-table t .grs)
   unfolding published
   members-seen g f m = sym (ap (λ (X : Published). IsSGroupSNode m s (X .grs)) (seen-sound t h) ∙ ap (λ (o : Option Group). member m (on-some seen o)) f)
 
-  -- every answer to a lookup is a pid with whether its host is a member of s, or a refusal
-  pub pid-or-refused : ((p : ℕ) × (heard ≡ answer-of (Pid p) (beside (IsSGroupSNode (host p) s (seen-table t .grs))))) ⊎ ((refuses (heard .reason) ≡ true) × (pid-of (heard .value) ≡ none))
-  pid-or-refused = go (told-here .is)
-    where
-      go : ((p : ℕ) × Found-in (asker k i) s n p (state-of names-per-group t) × (heard ≡ answer-of (Pid p) (ask (asker k i) s n (state-of names-per-group t) .reason)))
-          ⊎ ((refuses (heard .reason) ≡ true) × (pid-of (heard .value) ≡ none))
-          → ((p : ℕ) × (heard ≡ answer-of (Pid p) (beside (IsSGroupSNode (host p) s (seen-table t .grs))))) ⊎ ((refuses (heard .reason) ≡ true) × (pid-of (heard .value) ≡ none))
-      go (inl (p, f, a)) = inl (p, a ∙ ap (answer-of (Pid p)) (f .told ∙ ap beside (members-seen (f .group) (f .there) (host p))))
-      go (inr r) = inr r
+  -- the answer of the step is one of these
+  pub pid-or-refused : Pid-or-refused s (seen-table t) heard
+  pid-or-refused =
+      ⊎-elim
+      (λ w. inl (w .0, w .2 ∙ ap (answer-of (Pid (w .0))) (w .1 .told ∙ ap beside (members-seen (w .1 .group) (w .1 .there) (host (w .0))))))
+      (λ r. inr r)
+      (subst (λ (x : Call). Told (asker k i) s n (state-of names-per-group t) (x .answer)) (sym (call-sound room i c t (sound-iff names-per-group t .1 h)))
+      (lookup-told room i k (state-of names-per-group t)) .is)
 
   -- beside a pid stands 0 where its host is a member of s, and 21 where it is not
   pub beside-a-pid : (p : ℕ) → heard .value ≡ Pid p → heard .reason ≡ beside (IsSGroupSNode (host p) s (seen-table t .grs))
   beside-a-pid p e = go pid-or-refused
     where
-      go : ((q : ℕ) × (heard ≡ answer-of (Pid q) (beside (IsSGroupSNode (host q) s (seen-table t .grs))))) ⊎ ((refuses (heard .reason) ≡ true) × (pid-of (heard .value) ≡ none))
-          → heard .reason ≡ beside (IsSGroupSNode (host p) s (seen-table t .grs))
+      go : Pid-or-refused s (seen-table t) heard → heard .reason ≡ beside (IsSGroupSNode (host p) s (seen-table t .grs))
       go (inl (q, a)) =
           let v : Pid p ≡ Pid q = sym e ∙ ap (λ (x : Answer). x .value) a in
           let same : q ≡ p = cc in
@@ -93,8 +90,7 @@ module _ (room i : ℕ) {c : Command} {s n : ℕ} (k : Looks c s n) (t : List �
   pub exactly : (heard .reason ≡ HostOutside) ↔ ((p : ℕ) × (heard .value ≡ Pid p) × (IsSGroupSNode (host p) s (seen-table t .grs) ≡ false))
   exactly = (λ e. go e pid-or-refused, λ w. beside-a-pid (w .0) (w .1) ∙ ap beside (w .2))
     where
-      go : heard .reason ≡ HostOutside
-          → ((q : ℕ) × (heard ≡ answer-of (Pid q) (beside (IsSGroupSNode (host q) s (seen-table t .grs))))) ⊎ ((refuses (heard .reason) ≡ true) × (pid-of (heard .value) ≡ none))
+      go : heard .reason ≡ HostOutside → Pid-or-refused s (seen-table t) heard
           → (p : ℕ) × (heard .value ≡ Pid p) × (IsSGroupSNode (host p) s (seen-table t .grs) ≡ false)
       go e (inl (q, a)) = (q, ap (λ (x : Answer). x .value) a, beside-outside _ (sym (ap (λ (x : Answer). x .reason) a) ∙ e))
       go e (inr r) = absurd (false≢true (ap refuses (sym e) ∙ r .0))

@@ -67,10 +67,7 @@ fn every_reason_of_a_launch_is_reached() {
         (20, false),
     ];
     for pair in expected {
-        assert!(
-            seen.get(&pair).is_some_and(|times| *times >= 10),
-            "{pair:?}"
-        );
+        assert!(seen.contains_key(&pair), "{pair:?}");
     }
     assert!(seen
         .keys()

@@ -2,7 +2,7 @@
 -- the statements of docs/STATEMENTS.md are made of; of the others a reader needs the statements alone.
 
 -- ---- sizes and arguments (believed): capacities and places of the table; ranges; how wide arguments are; the seven commands of one s_group; which
--- commands ask another node
+-- commands ask another node, and which look a name up
 pub mod Sizes
 pub mod Ranges
 pub mod Fits
@@ -24,7 +24,7 @@ pub mod Within
 pub mod Table
 pub mod Test
 pub mod Call
--- ---- 01 by computation: the marked steps, the sample and the edges, readings that are not ours; the edges of names that leave (02)
+-- ---- 01 by computation: the marked steps, the sample and the edges, readings that are not ours; the edges of names that leave and of strangers (02)
 pub mod Compute
 pub mod Marked
 pub mod Edges
@@ -38,7 +38,7 @@ pub mod Members
 pub mod Groups
 pub mod FreeNodes
 pub mod FreeGroupsOfNodes
--- ---- every command keeps it: connections and free groups, an s_group that changes, connecting, becoming free, names, opening; all fifteen
+-- ---- every command keeps it: connections and free groups, an s_group that changes, connecting, becoming free, names, what is looked up, opening; all fifteen
 pub mod Wires
 pub mod Changed
 pub mod Merged

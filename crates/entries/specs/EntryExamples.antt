@@ -6,9 +6,10 @@ use mathlib.Core.Option.{none, some}
 use Prim.Native.Nat.{ℕ, _+_, _*_}
 use Rattle.entries.specs.Entries.{Entry, half-word, pids-per-host, insert, remove, renew, lookup, rank, holds-pid, drop-hosted, words, entries}
 use Rattle.entries.specs.NamespaceSound.{is-ascending, is-distinct, is-hosted, sound-entries, all-zero, sound-words}
-use Rattle.entries.specs.Raw.{narrowed, place, found-at, found, pid-answer, opened, add-answer, added, change-of, closed, dropped, replaced}
+use Rattle.entries.specs.Raw.{narrowed, place, found-at, found, seen-of, pid-answer, opened, add-answer, added, change-of, closed, dropped, replaced}
 use Rattle.entries.specs.Raw.{list-answer, listed, hosted-answer, hosted-dropped}
 use Rattle.entries.specs.declared.Found.the-variants as find
+use Rattle.entries.specs.declared.Seen.the-variants as seen
 use Rattle.entries.specs.declared.Held.the-variants as held
 use Rattle.entries.specs.declared.Change.the-variants as change
 use Rattle.entries.specs.declared.Counted.the-variants as counted
@@ -77,6 +78,12 @@ spoiled = (refl, refl, refl, refl)
 finds : (found 2 7 run ≡ find.At 1 9) × (found 2 5 run ≡ find.Absent) × (found 5 7 run ≡ find.Unfit) × (pid-answer 2 9 run ≡ held.Yes) × (pid-answer 2 8 run ≡ held.No)
 unfolding run word narrowed place found-at found pid-answer entries holds-pid
 finds = (refl, refl, refl, refl, refl)
+
+-- 3 lives on node 1 and 7 on node 0: told by the set of node 0, and by the empty one
+tells : (seen-of 1 (found 2 7 run) ≡ seen.Inside 9) × (seen-of 1 (found 2 3 run) ≡ seen.Outside (1 * pids-per-host + 5)) × (seen-of 0 (found 2 7 run) ≡ seen.Outside 9)
+    × (seen-of 1 (found 2 5 run) ≡ seen.Absent) × (seen-of 1 (found 5 7 run) ≡ seen.Unfit)
+unfolding run word narrowed place found-at found
+tells = (refl, refl, refl, refl, refl)
 
 adds : (add-answer 2 run ≡ change.Done) × (added 2 5 1 run ≡ word 3 1 5 ∷ word 5 0 1 ∷ word 7 0 9 ∷ 0 ∷ [])
 unfolding run word narrowed place opened add-answer added

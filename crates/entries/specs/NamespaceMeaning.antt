@@ -14,7 +14,7 @@ use borrow.Author.Tests.{lt-ltb, le-ltb, le-leb, leb-true, eq-eqb, ne-eqb}
 use Rattle.nodes.specs.Bools.{by-test, by-lt, by-eq}
 use Rattle.entries.specs.Entries.{Entry, half-word, insert, remove, renew, lookup, rank, holds-pid, drop-hosted, word-of, words, entries}
 use Rattle.entries.specs.NamespaceSound.{Ascending, Sound}
-use Rattle.entries.specs.Raw.{place, found-at, found, answer-at, pid-found, yes-no, pid-answer, opened, add-answer, added, closed, closed-at, dropped, stored-at, replaced, listed-name, list-answer, listed, hosted-answer, hosted-dropped}
+use Rattle.entries.specs.Raw.{place, found-at, found, answer-at, seen-of, lookup-seen, yes-no, pid-answer, opened, add-answer, added, closed, closed-at, dropped, stored-at, replaced, listed-name, list-answer, listed, hosted-answer, hosted-dropped}
 use Rattle.entries.specs.EntryLaws.{held-or-not, lookup-low, remove-absent, renew-absent}
 use Rattle.entries.specs.NamespaceKept.{length-drop-hosted}
 use Rattle.entries.specs.Storage.{length-words, length-entries, entries-words}
@@ -134,12 +134,14 @@ found-words cap size n es s =
         (λ (t : length es ≤ rank n es). rw (le-ltb (rank n es) (length es)))
         (by-lt (rank n es) (length es))
 
-pub found-lookup : (cap size n : ℕ) (es : List Entry) → Sound cap size es → pid-found (found (length es) n (words cap es)) ≡ lookup n es
-found-lookup cap size n es s = ap pid-found (found-words cap size n es s) ∙ back (lookup n es)
+-- ---- look_up
+
+pub seen-words : (cap size n set : ℕ) (es : List Entry) → Sound cap size es → seen-of set (found (length es) n (words cap es)) ≡ lookup-seen set (lookup n es)
+seen-words cap size n set es s = ap (seen-of set) (found-words cap size n es s) ∙ told (lookup n es)
   where
-    back : (o : Option ℕ) → pid-found (answer-at (rank n es) o) ≡ o
-    back (some p) = refl
-    back none = refl
+    told : (o : Option ℕ) → seen-of set (answer-at (rank n es) o) ≡ lookup-seen set o
+    told (some p) = refl
+    told none = refl
 
 -- ---- holds_pid
 

@@ -26,7 +26,7 @@ use Rattle.answers.specs.declared.Reason.the-variants.{Done, NotRegistered, Hos
 use Rattle.semantics.specs.Ranges.{held}
 use Rattle.semantics.specs.Steps.{looked, nothing-found}
 use Rattle.names.specs.NamesHere.{changed}
-use Rattle.names.specs.Looked.{pid-found, looked-in}
+use Rattle.names.specs.Looked.{pid-with, looked-in}
 
 -- ---- a change
 
@@ -75,7 +75,7 @@ pub seen-looked : (members : ℕ) (x : Seen) (o : Option ℕ) → x ≡ lookup-s
 seen-looked members x none e = ap looked-in (sym e)
 seen-looked members x (some p) e = go (has members (host p)) ∙ ap looked-in (sym e)
   where
-    go : (b : Bool) → pid-found p (cond b Done HostOutside) ≡ looked-in (cond b (seen-as.Inside p) (seen-as.Outside p))
+    go : (b : Bool) → pid-with p (cond b Done HostOutside) ≡ looked-in (cond b (seen-as.Inside p) (seen-as.Outside p))
     go true = refl
     go false = refl
 

@@ -10,17 +10,17 @@ use Rattle.names.specs.declared.Lookup.{Lookup}
 use Rattle.names.specs.declared.Lookup.the-variants.{Found, Missing}
 
 -- a pid that is found, with the reason beside it
-abbrev pub pid-found : ℕ → Reason → Looked
-pid-found p r = record { found = some p; reason = r }
+abbrev pub pid-with : ℕ → Reason → Looked
+pid-with p r = record { found = some p; reason = r }
 
 -- what a lookup found, with its reason
 abbrev pub looked-up : Lookup → Looked
-looked-up (Found p r) = pid-found p r
+looked-up (Found p r) = pid-with p r
 looked-up (Missing r) = nothing-found r
 
 -- what the namespace told, by the set of members
 abbrev pub looked-in : Seen → Looked
-looked-in (Inside p) = pid-found p Done
-looked-in (Outside p) = pid-found p HostOutside
+looked-in (Inside p) = pid-with p Done
+looked-in (Outside p) = pid-with p HostOutside
 looked-in Absent = nothing-found NotRegistered
 looked-in Unfit = nothing-found NotRegistered

@@ -12,7 +12,7 @@ use Rattle.entries.specs.Entries.{Entry, insert, remove, renew, lookup, rank, h
 use Rattle.entries.specs.Raw.{place, found, found-at, answer-at, seen-of, lookup-seen, pid-answer, yes-no, added, dropped, replaced, change-of, hosted-answer, hosted-dropped}
 use Rattle.entries.specs.EntryLaws.{length-insert, length-remove, length-renew, remove-absent}
 use Rattle.entries.specs.NamespaceKept.{length-drop-hosted}
-use Rattle.entries.specs.NamespaceMeaning.{found-words, pid-answer-words, added-words, dropped-words, replaced-words, hosted-answer-words, hosted-dropped-words}
+use Rattle.entries.specs.NamespaceMeaning.{found-words, seen-words, pid-answer-words, added-words, dropped-words, replaced-words, hosted-answer-words, hosted-dropped-words}
 use Rattle.entries.specs.declared.Change.{Change}
 use Rattle.entries.specs.declared.Change.the-variants as change
 use Rattle.entries.specs.declared.Counted.the-variants as counts
@@ -39,10 +39,6 @@ pub is-held : (o : Option ℕ) → held o ≡ true → (p : ℕ) × (o ≡ some 
 is-held none h = absurd (false≢true h)
 is-held (some p) h = (p, refl)
 
-seen-at : (set i : ℕ) (o : Option ℕ) → seen-of set (answer-at i o) ≡ lookup-seen set o
-seen-at set i none = refl
-seen-at set i (some p) = refl
-
 changed-at : (i : ℕ) (o : Option ℕ) → change-of (answer-at i o) ≡ changed o
 changed-at i none = refl
 changed-at i (some p) = refl
@@ -60,8 +56,8 @@ module _ {st : State} {t : List ℕ} (l : Laid names-per-group st t) (k : ℕ) (
     pub seen-here : (n : ℕ) → k < group-limit
         → seen-of (getD t (members-at + k) 0) (found (counted k t) n (take (e - b) (drop b t))) ≡ lookup-seen (group-at (st .groups) k .members) (lookup n (names-at k st))
     seen-here n h =
-        rw (members-word l k h ∙ members-at-place (st .groups) k)
-        (ap (seen-of _) (found-here n) ∙ seen-at _ (rank n (names-at k st)) (lookup n (names-at k st)))
+        rw (members-word l k h ∙ members-at-place (st .groups) k, count-is, own-words l k (w .below) b e eb ee)
+        (seen-words names-per-group (st .size) n (group-at (st .groups) k .members) (names-at k st) (w .regular .names-sound))
 
     pub changed-here : (n : ℕ) → change-of (found (counted k t) n (take (e - b) (drop b t))) ≡ changed (lookup n (names-at k st))
     changed-here n = ap change-of (found-here n) ∙ changed-at (rank n (names-at k st)) (lookup n (names-at k st))

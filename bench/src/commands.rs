@@ -4,6 +4,7 @@ use crate::api::{Api, PLAIN, PLAIN_UNTESTED, PROVED, PROVED_UNTESTED};
 use crate::call::{calls, no_calls, Asked, Lent, Which};
 use crate::plain::sound::{BODIES, BODY, CONTENTS, MEMBERS};
 use crate::race::{best, quicker_half, race, Count};
+use crate::strangers::STRANGER;
 use crate::tables::{full_with, halves, subset, table, Size, FULL, SMALL};
 use model::prng::Prng;
 
@@ -78,7 +79,7 @@ pub fn main_cases(prng: &mut Prng, which: Which, words: &[u64], calls: usize) ->
 
 /// Whether a main case has this reason: 0, or 21 beside the pid that a lookup finds.
 fn of_main_case(which: Which, reason: u64) -> bool {
-    reason == 0 || reason == 21 && Which::LOOKUPS.contains(&which)
+    reason == 0 || reason == STRANGER && Which::LOOKUPS.contains(&which)
 }
 
 /// Nanoseconds a call of two sides. Every call finds the table as it was; the time of an empty turn is subtracted.

@@ -12,7 +12,7 @@ use model::prng::Prng;
 /// Random tables on which both sides agree, each with a call of every lookup.
 const AGREED: u64 = 25_000;
 /// The reason beside a stranger's pid.
-const STRANGER: u64 = 21;
+pub const STRANGER: u64 = 21;
 
 /// Where the pids of a table live.
 #[derive(Clone, Copy)]

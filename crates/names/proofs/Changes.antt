@@ -22,9 +22,9 @@ use Rattle.entries.specs.declared.Held.{Held}
 use Rattle.entries.specs.declared.Held.the-variants as held-as
 use Rattle.entries.specs.declared.Seen.{Seen}
 use Rattle.entries.specs.declared.Seen.the-variants as seen-as
-use Rattle.answers.specs.declared.Reason.the-variants.{Done, NotRegistered, HostOutside}
+use Rattle.answers.specs.declared.Reason.the-variants.{NotRegistered}
 use Rattle.semantics.specs.Ranges.{held}
-use Rattle.semantics.specs.Steps.{looked, nothing-found}
+use Rattle.semantics.specs.Steps.{beside, looked, nothing-found}
 use Rattle.names.specs.NamesHere.{changed}
 use Rattle.names.specs.Looked.{pid-with, looked-in}
 
@@ -68,6 +68,13 @@ pub found-none : (i : ℕ) (x : Found) (o : Option ℕ) → x ≡ answer-at i o 
 found-none i x none e k = refl
 found-none i x (some q) e k = absurd (miss other 0 tt (subst (λ (y : Found). OneOf other (tagOf Found-type.the-type y)) e k))
 
+-- whether it found the name is whether the name is held
+pub found-held : (i : ℕ) {j p : ℕ} (x : Found) (o : Option ℕ) → x ≡ answer-at i o → x ≡ found-as.At j p → held o ≡ true
+found-held i x o e d = ap held (found-some i x o e d)
+
+pub found-absent : (i : ℕ) (x : Found) (o : Option ℕ) → x ≡ answer-at i o → OneOf other (tagOf Found-type.the-type x) → held o ≡ false
+found-absent i x o e k = ap held (found-none i x o e k)
+
 -- ---- a lookup
 
 -- what the namespace tells by the members is what the lookup finds
@@ -75,7 +82,7 @@ pub seen-looked : (members : ℕ) (x : Seen) (o : Option ℕ) → x ≡ lookup-s
 seen-looked members x none e = ap looked-in (sym e)
 seen-looked members x (some p) e = go (has members (host p)) ∙ ap looked-in (sym e)
   where
-    go : (b : Bool) → pid-with p (cond b Done HostOutside) ≡ looked-in (cond b (seen-as.Inside p) (seen-as.Outside p))
+    go : (b : Bool) → pid-with p (beside b) ≡ looked-in (cond b (seen-as.Inside p) (seen-as.Outside p))
     go true = refl
     go false = refl
 
@@ -88,10 +95,3 @@ seen-none (seen-as.Inside p) k = absurd (miss pidless 0 tt k)
 seen-none (seen-as.Outside p) k = absurd (miss pidless 1 tt k)
 seen-none seen-as.Absent k = refl
 seen-none seen-as.Unfit k = refl
-
--- whether it found the name is whether the name is held
-pub found-held : (i : ℕ) {j p : ℕ} (x : Found) (o : Option ℕ) → x ≡ answer-at i o → x ≡ found-as.At j p → held o ≡ true
-found-held i x o e d = ap held (found-some i x o e d)
-
-pub found-absent : (i : ℕ) (x : Found) (o : Option ℕ) → x ≡ answer-at i o → OneOf other (tagOf Found-type.the-type x) → held o ≡ false
-found-absent i x o e k = ap held (found-none i x o e k)

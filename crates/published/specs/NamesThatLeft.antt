@@ -18,6 +18,8 @@ use Rattle.answers.specs.declared.Reason.the-variants.{Done}
 use Rattle.semantics.specs.Sizes.{names-per-group}
 use Rattle.semantics.specs.Soundness.{Sound}
 use Rattle.semantics.specs.Fits.{Fits}
+use Rattle.semantics.specs.Steps.{beside}
+use Rattle.semantics.specs.Lookups.{beside-refuses}
 use Rattle.semantics.specs.Asks.{lookup-here}
 use Rattle.semantics.specs.Call.{call}
 use Rattle.semantics.specs.Calls.{calls-keep-sound}
@@ -25,7 +27,7 @@ use Rattle.published.specs.Published.{Set, Map, of-some, _∖_, _∩_, a
 use Rattle.published.specs.SomeBelow.{any-hit}
 use Rattle.published.specs.SeenState.{said, seen-table}
 use Rattle.published.specs.Exact.{accepted-call}
-use Rattle.published.specs.Strangers.{beside, beside-refuses, beside-a-pid}
+use Rattle.published.specs.Strangers.{beside-a-pid}
 
 -- ---- nodes that become free change no s_group
 

@@ -138,14 +138,14 @@ module _ {cap : ℕ} (st : State) (w : Regular cap st) (room G i s : ℕ) where
   looks-up n named =
       by-refusal settled (eqb n 0) (say Error NameZero) _ _ refl λ x. rw named (go (find s (st .groups)))
     where
-      inner : (g : Group) (x : Bool) → Agrees (settled (cond x (say (W.pid-or-undefined (lookup n (g .names))) (look-reason (g .members) (lookup n (g .names))))
+      inner : (g : Group) (x : Bool) → Agrees (settled (cond x (W.whereis-in n g)
           (say Undefined NotMember)))
           (gives (of-some P.Undefined P.Pid (cond x (cond x (lookup n (g .names)) none) none)) (published st))
       inner g true = looks (g .members) (lookup n (g .names))
       inner g false = kept st s i Undefined _ P.Undefined refl
 
       go : (o : Option Group) → Agrees (settled (W.as-member i Undefined o
-          (λ g. say (W.pid-or-undefined (lookup n (g .names))) (look-reason (g .members) (lookup n (g .names))))))
+          (W.whereis-in n)))
           (gives (of-some P.Undefined P.Pid
           (cond (member i (on-some seen o)) (of-some none (λ g. cond (g .nodes i) (g .namespace n) none) (on-some seen o)) none)) (published st))
       go none = kept st s i Undefined _ P.Undefined refl

@@ -151,17 +151,17 @@ found-why : (m : ℕ) (o : Option ℕ) → (look-reason m o ≡ first (found-tes
 found-why m none = (refl, refl)
 found-why m (some p) = go (has m (host p))
   where
-    go : (x : Bool) → (cond x Done HostOutside ≡ cond (not x) HostOutside Done) × (ruled (cond (not x) HostOutside Done) ≡ true)
+    go : (x : Bool) → (W.beside x ≡ cond (not x) HostOutside Done) × (ruled (cond (not x) HostOutside Done) ≡ true)
     go true = (refl, refl)
     go false = (refl, refl)
 
 looked-up : (st : State) (s n : ℕ) (g : Group) → find s (st .groups) ≡ some g
-    → Told (settle s (say (W.pid-or-undefined (lookup n (g .names))) (look-reason (g .members) (lookup n (g .names)))) st)
+    → Told (settle s (W.whereis-in n g) st)
     (NotRegistered when not (held (names-in s (published st) n)) ∷ tests-host s n (published st)) st
 unfolding published
 looked-up st s n g f =
     let why = found-why (g .members) (lookup n (g .names)) in
-    subst (λ (ts : List Test). Told (settle s (say (W.pid-or-undefined (lookup n (g .names))) (look-reason (g .members) (lookup n (g .names)))) st) ts st)
+    subst (λ (ts : List Test). Told (settle s (W.whereis-in n g) st) ts st)
     (sym (ap (λ (o : Option Group). found-tests (λ i. member i (on-some seen o)) (of-some none (λ h. h .namespace n) (on-some seen o))) f))
     (record { why = mild st _ _ (why .0) (why .1) })
 
@@ -225,7 +225,7 @@ told-within room i (unregister-name s n) st w fits =
 told-within room i (whereis-name s n) st w fits =
     begin room i s st w _ _ λ q.
     or-error st s (eqb n 0) _ NameZero _ _ refl refl λ x.
-    by-member st s i Undefined (find s (st .groups)) (λ g. say (W.pid-or-undefined (lookup n (g .names))) (look-reason (g .members) (lookup n (g .names)))) _ λ g f m.
+    by-member st s i Undefined (find s (st .groups)) (W.whereis-in n) _ λ g f m.
     looked-up st s n g f
 told-within room i (registered-names s) st w fits =
     begin room i s st w _ _ λ q.

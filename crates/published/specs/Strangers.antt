@@ -16,7 +16,6 @@ use Rattle.commands.specs.declared.Command.the-variants.{RegisterName, ReRegist
 use Rattle.answers.specs.Answers.{number, refuses, answer-of}
 use Rattle.answers.specs.declared.Answer.{Answer}
 use Rattle.answers.specs.declared.Value.the-variants.{Pid, Grouped}
-use Rattle.answers.specs.declared.Reason.{Reason}
 use Rattle.answers.specs.declared.Reason.the-variants.{Done, HostOutside}
 use Rattle.semantics.specs.Sizes.{names-per-group}
 use Rattle.semantics.specs.State.{Group, find}
@@ -27,6 +26,7 @@ use Rattle.semantics.specs.FirstReason.{Test, first}
 use Rattle.semantics.specs.Fits.{Fits}
 use Rattle.semantics.specs.Asks.{Looks, lookup-here, lookup-at, send-here, send-at, Looks-none}
 use Rattle.semantics.specs.Lookups.{pid-of, Told, asker, lookup-told}
+use Rattle.semantics.specs.Steps.{beside}
 use Rattle.semantics.specs.Call.{Call, call}
 use Rattle.semantics.specs.Calls.{call-sound, calls-keep-sound}
 use Rattle.published.specs.Published as P
@@ -36,16 +36,7 @@ use Rattle.published.specs.GroupsSeen.{on-some, member}
 use Rattle.published.specs.Refusals.{Answered, tests, answer}
 use Rattle.published.specs.Exact.{exact-call, accepted-call}
 
--- the reason beside a pid, by whether its host is a member
-abbrev pub beside : Bool → Reason
-beside x = cond x Done HostOutside
-
--- which refuses nothing
-pub beside-refuses : (x : Bool) → refuses (beside x) ≡ false
-beside-refuses true = refl
-beside-refuses false = refl
-
--- and tells whether it is one
+-- the reason beside a pid tells whether its host is a member
 pub beside-outside : (x : Bool) → beside x ≡ HostOutside → x ≡ false
 beside-outside true e = let z : number Done ≡ number HostOutside = ap number e in absurd (omega arith)
 beside-outside false e = refl

@@ -15,7 +15,7 @@ use Rattle.commands.specs.declared.Command.{Command}
 use Rattle.commands.specs.declared.Command.the-variants.{WhereisNameAt, Send, SendName, SendAt, NewSGroup, RemoveNodes, DeleteSGroup, OwnNodes, OwnSGroups}
 use Rattle.semantics.specs.GroupCommands.{GroupCommand, register-name, re-register-name, unregister-name, whereis-name, registered-names, add-nodes, new-s-group, within}
 use Rattle.semantics.specs.Ranges.{bad-group, held}
-use Rattle.semantics.specs.Steps.{connect, become-free, Result, reply, error, target, hold, join, create, Outcome, done, say, listed, as-member, pid-or-undefined, look-reason, full, name-words, inside, outcome, apply, settle, group-step, ask, tell, send-on, for-member, left-in, own-set, own-list, read-only, rule, step}
+use Rattle.semantics.specs.Steps.{connect, become-free, Result, reply, error, target, hold, join, create, Outcome, done, say, listed, as-member, whereis-in, full, name-words, inside, outcome, apply, settle, group-step, ask, tell, send-on, for-member, left-in, own-set, own-list, read-only, rule, step}
 use Rattle.semantics.specs.Within.{step-within}
 use Rattle.answers.specs.declared.Value.{Value}
 use Rattle.answers.specs.declared.Value.the-variants.{True, False, Error, Undefined, Pid, Grouped, Nodes, Listed}
@@ -109,10 +109,6 @@ unregister-in n g =
     cond (held (lookup n (g .names)))
     (done (hold (g .members) (remove n (g .names))) True)
     (say True NotRegistered)
-
--- whereis_name
-abbrev pub whereis-in : ℕ → Group → Outcome
-whereis-in n g = say (pid-or-undefined (lookup n (g .names))) (look-reason (g .members) (lookup n (g .names)))
 
 -- registered_names, with a run of so much room
 abbrev pub names-in : ℕ → ℕ → Group → Outcome

@@ -16,7 +16,7 @@ use Rattle.answers.specs.declared.Answer.{Answer}
 use Rattle.answers.specs.declared.Value.{Value}
 use Rattle.answers.specs.declared.Value.the-variants.{Ok, True, False, Error, Undefined, Pid, Grouped, Nodes, Listed}
 use Rattle.answers.specs.declared.Reason.{Reason}
-use Rattle.answers.specs.declared.Reason.the-variants.{Done, CallerUnknown, GroupNameRange, NameZero, NodeUnknown, NotMember, NotRegistered, HostOutside}
+use Rattle.answers.specs.declared.Reason.the-variants.{CallerUnknown, GroupNameRange, NameZero, NodeUnknown, NotMember, NotRegistered}
 use Rattle.commands.specs.declared.Command.{Command}
 use Rattle.semantics.specs.Sizes.{group-names}
 use Rattle.semantics.specs.Ranges.{bad-group}
@@ -24,7 +24,7 @@ use Rattle.semantics.specs.State.{Group, State, find}
 use Rattle.semantics.specs.GroupCommands.{whereis-name}
 use Rattle.semantics.specs.Asks.{Looks, lookup-here, lookup-at, send-here, send-at}
 use Rattle.semantics.specs.Truth.{neither}
-use Rattle.semantics.specs.Steps.{Outcome, Result, error, say, as-member, pid-or-undefined, look-reason, looked, nothing-found, look-in, ask, tell, asking, settle, apply, inside, outcome, group-step, rule, step}
+use Rattle.semantics.specs.Steps.{Outcome, Result, error, say, as-member, pid-or-undefined, beside, look-reason, whereis-in, looked, nothing-found, look-in, ask, tell, asking, settle, apply, inside, outcome, group-step, rule, step}
 use Rattle.semantics.specs.Regular.{Regular}
 use Rattle.semantics.specs.NamesKept.{host-found}
 use Rattle.semantics.specs.Changed.{regular-found}
@@ -37,7 +37,7 @@ pub record Found-in (j s n p : ℕ) (st : State) : Type 0 where
   pub there : find s (st .groups) ≡ some group
   pub member : has (group .members) j ≡ true
   pub registered : lookup n (group .names) ≡ some p
-  pub told : ask j s n st .reason ≡ cond (has (group .members) (host p)) Done HostOutside
+  pub told : ask j s n st .reason ≡ beside (has (group .members) (host p))
 
 nothing-there : {A : Type 0} {p : ℕ} → none ≡ some p → A
 nothing-there q = let z : _≡_ {A = ℕ} 0 1 = cc in absurd (omega arith)
@@ -62,6 +62,11 @@ host-asked {st = st} w j s n p e =
     let f = found-in j s n p st e in
     host-found (st .size) n p (f .group .names) (regular-found w s (f .group) (f .there) .names-sound .hosts) (f .registered)
 
+-- the reason beside a pid refuses nothing
+pub beside-refuses : (x : Bool) → refuses (beside x) ≡ false
+beside-refuses true = refl
+beside-refuses false = refl
+
 -- where nothing is found, the reason refuses
 missing : (j s n : ℕ) (st : State) → ask j s n st .found ≡ none → refuses (ask j s n st .reason) ≡ true
 missing j s n st = go (eqb s 0) (find s (st .groups))
@@ -85,7 +90,7 @@ missing j s n st = go (eqb s 0) (find s (st .groups))
 
 -- whereis_name/2 tells what its caller finds
 pub whereis-tells : (i s n : ℕ) (st : State) (o : Option Group)
-    → settle s (as-member i Undefined o (λ g. say (pid-or-undefined (lookup n (g .names))) (look-reason (g .members) (lookup n (g .names))))) st ≡ tell (look-in i n o) st
+    → settle s (as-member i Undefined o (whereis-in n)) st ≡ tell (look-in i n o) st
 unfolding apply
 whereis-tells i s n st none = refl
 whereis-tells i s n st (some g) = ⊎-elim (λ (h : has (g .members) i ≡ true). rw h) (λ (h : has (g .members) i ≡ false). rw h) (by-test (has (g .members) i))

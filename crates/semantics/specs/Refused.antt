@@ -21,6 +21,7 @@ use Rattle.semantics.specs.GroupCommands.{GroupCommand, register-name, r
 use Rattle.semantics.specs.Asks.{Asks, by-lookup, by-send, Asks-none}
 use Rattle.semantics.specs.Ranges.{bad-group, held}
 use Rattle.semantics.specs.Steps.{Outcome, Effect, keep, Result, Looked, error, as-member, for-member, full, name-words, own-list, listed, looked, look-in, ask, tell, send-on, asking, connect, inside, outcome, apply, target, group-step, rule, step}
+use Rattle.semantics.specs.Lookups.{beside-refuses}
 use Rattle.semantics.specs.Table.{layout, state-of}
 use Rattle.semantics.specs.Soundness.{Sound}
 use Rattle.semantics.specs.Test.{sound}
@@ -29,7 +30,7 @@ use Rattle.semantics.specs.Call.{refused, call, opening}
 use Rattle.semantics.specs.Calls.{why, call-sound, call-unsound}
 use Rattle.answers.specs.declared.Value.{Value}
 use Rattle.answers.specs.declared.Reason.{Reason}
-use Rattle.answers.specs.declared.Reason.the-variants.{Done, TableLength, Unsound, HostOutside}
+use Rattle.answers.specs.declared.Reason.the-variants.{TableLength, Unsound}
 
 -- ---- commands that name one s_group
 
@@ -78,14 +79,9 @@ l-if : (x : Bool) (a b : Looked) → Silent a → Silent b → Silent (cond x a 
 l-if true a b p q = p
 l-if false a b p q = q
 
--- beside a pid no reason refuses
-l-pid : (x : Bool) → refuses (cond x Done HostOutside) ≡ false
-l-pid true = refl
-l-pid false = refl
-
 l-found : (m : ℕ) (o : Option ℕ) → Silent (looked m o)
 l-found m none = λ n. (refl, refl)
-l-found m (some p) = λ n. absurd (false≢true (sym (l-pid (has m (host p))) ∙ n))
+l-found m (some p) = λ n. absurd (false≢true (sym (beside-refuses (has m (host p))) ∙ n))
 
 l-in : (i n : ℕ) (o : Option Group) → Silent (look-in i n o)
 l-in i n none = λ x. (refl, refl)

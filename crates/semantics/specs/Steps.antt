@@ -142,10 +142,18 @@ abbrev pub pid-or-undefined : Option ℕ → Value
 pid-or-undefined none = Undefined
 pid-or-undefined (some p) = Pid p
 
--- and its reason, by the members of the s_group: beside a pid it tells whether the host is one of them (02, request 3)
+-- the reason beside a pid, by whether its host is a member (02, request 3)
+abbrev pub beside : Bool → Reason
+beside x = cond x Done HostOutside
+
+-- the reason of a lookup by a member, in an s_group of these members
 abbrev pub look-reason : ℕ → Option ℕ → Reason
 look-reason members none = NotRegistered
-look-reason members (some p) = cond (has members (host p)) Done HostOutside
+look-reason members (some p) = beside (has members (host p))
+
+-- what a member of g is told of n
+abbrev pub whereis-in : ℕ → Group → Outcome
+whereis-in n g = say (pid-or-undefined (lookup n (g .names))) (look-reason (g .members) (lookup n (g .names)))
 
 -- whether the namespace has no room for one more
 abbrev pub full : List Entry → Bool
@@ -180,7 +188,7 @@ inside room N G i (unregister-name s n) found =
     (say True NotRegistered)))
 inside room N G i (whereis-name s n) found =
     cond (eqb n 0) (say Error NameZero)
-    (as-member i Undefined found (λ g. say (pid-or-undefined (lookup n (g .names))) (look-reason (g .members) (lookup n (g .names)))))
+    (as-member i Undefined found (whereis-in n))
 inside room N G i (registered-names s) found =
     as-member i (Listed 0) found (λ g. listed room (name-words s (g .names)))
 inside room N G i (add-nodes s set) found =

@@ -7,7 +7,7 @@ use lib.Dec.{eqb, leb}
 use Rattle.answers.specs.declared.Answer.{Answer}
 use Rattle.answers.specs.declared.Value.{Value}
 use Rattle.answers.specs.declared.Reason.{Reason}
-use Rattle.answers.specs.declared.Reason.the-variants.{Done, TableLength, RosterSize, Unsound, CallerUnknown, GroupNameRange, NameZero, NodeUnknown, GroupUnknown, NotMember, NameTaken, PidTaken, NotRegistered, NamespaceFull, CallerOutside, GroupTaken, GroupsFull, RunShort, NoLaunchFile, GroupsDiffer, AtomUnknown, HostOutside}
+use Rattle.answers.specs.declared.Reason.the-variants.{Done, TableLength, RosterSize, Unsound, CallerUnknown, GroupNameRange, NameZero, NodeUnknown, GroupUnknown, NotMember, NameTaken, PidTaken, NotRegistered, NamespaceFull, CallerOutside, GroupTaken, GroupsFull, RunShort, NoLaunchFile, GroupsDiffer, AtomUnknown, HostOutside, IndexWrong}
 
 -- the number of a reason
 abbrev pub number : Reason → ℕ
@@ -33,11 +33,12 @@ number NoLaunchFile = 18
 number GroupsDiffer = 19
 number AtomUnknown = 20
 number HostOutside = 21
+number IndexWrong = 22
 
 -- the reasons in the order in which they are tested; Done, where no test holds, stands first, and HostOutside, which is said only where nothing refuses, last
 abbrev pub order : List Reason
 order =
-    Done ∷ TableLength ∷ RosterSize ∷ Unsound ∷ CallerUnknown ∷ GroupNameRange ∷ NameZero ∷ NodeUnknown ∷ NoLaunchFile ∷ GroupsDiffer ∷ AtomUnknown
+    Done ∷ TableLength ∷ RosterSize ∷ Unsound ∷ IndexWrong ∷ CallerUnknown ∷ GroupNameRange ∷ NameZero ∷ NodeUnknown ∷ NoLaunchFile ∷ GroupsDiffer ∷ AtomUnknown
     ∷ GroupUnknown ∷ NotMember ∷ NameTaken ∷ PidTaken ∷ NotRegistered ∷ NamespaceFull ∷ CallerOutside ∷ GroupTaken ∷ GroupsFull ∷ RunShort
     ∷ HostOutside ∷ []
 

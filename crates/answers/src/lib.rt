@@ -46,6 +46,7 @@ pub enum Reason {
     GroupsDiffer,
     AtomUnknown,
     HostOutside,
+    IndexWrong,
 }
 
 // What a call answers.
@@ -105,6 +106,7 @@ pub fn number(reason: Reason) -> u32
         Reason::GroupsDiffer => 19,
         Reason::AtomUnknown => 20,
         Reason::HostOutside => 21,
+        Reason::IndexWrong => 22,
     }
 }
 

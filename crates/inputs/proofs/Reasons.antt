@@ -14,7 +14,7 @@ use Rattle.inputs.specs.Passed.{done-is}
 
 -- the places of the variants after Done
 abbrev pub others : List ℕ
-others = 1 ∷ 2 ∷ 3 ∷ 4 ∷ 5 ∷ 6 ∷ 7 ∷ 8 ∷ 9 ∷ 10 ∷ 11 ∷ 12 ∷ 13 ∷ 14 ∷ 15 ∷ 16 ∷ 17 ∷ 18 ∷ 19 ∷ 20 ∷ 21 ∷ []
+others = 1 ∷ 2 ∷ 3 ∷ 4 ∷ 5 ∷ 6 ∷ 7 ∷ 8 ∷ 9 ∷ 10 ∷ 11 ∷ 12 ∷ 13 ∷ 14 ∷ 15 ∷ 16 ∷ 17 ∷ 18 ∷ 19 ∷ 20 ∷ 21 ∷ 22 ∷ []
 
 pub not-done : (r : Reason) → OneOf others (tagOf the-type r) → is-done r ≡ false
 not-done r k = unless (is-done r) (λ h. miss others 0 tt (subst (λ (x : Reason). OneOf others (tagOf the-type x)) (done-is r h) k))

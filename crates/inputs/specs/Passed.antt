@@ -11,7 +11,7 @@ use Rattle.semantics.specs.Sizes.{group-limit, group-names}
 use Rattle.semantics.specs.Ranges.{bad-group}
 use Rattle.semantics.specs.Truth.{neither}
 use Rattle.answers.specs.declared.Reason.{Reason}
-use Rattle.answers.specs.declared.Reason.the-variants.{Done, TableLength, RosterSize, Unsound, CallerUnknown, GroupNameRange, NameZero, NodeUnknown, GroupUnknown, NotMember, NameTaken, PidTaken, NotRegistered, NamespaceFull, CallerOutside, GroupTaken, GroupsFull, RunShort, NoLaunchFile, GroupsDiffer, AtomUnknown, HostOutside}
+use Rattle.answers.specs.declared.Reason.the-variants.{Done, TableLength, RosterSize, Unsound, CallerUnknown, GroupNameRange, NameZero, NodeUnknown, GroupUnknown, NotMember, NameTaken, PidTaken, NotRegistered, NamespaceFull, CallerOutside, GroupTaken, GroupsFull, RunShort, NoLaunchFile, GroupsDiffer, AtomUnknown, HostOutside, IndexWrong}
 use Rattle.inputs.specs.Judge.{is-done, first-of, caller-reason, group-reason, name-reason, set-reason, creation-reason, asking-reason, host-reason}
 
 -- ---- reasons
@@ -39,6 +39,7 @@ done-is NoLaunchFile h = absurd (false≢true h)
 done-is GroupsDiffer h = absurd (false≢true h)
 done-is AtomUnknown h = absurd (false≢true h)
 done-is HostOutside h = absurd (false≢true h)
+done-is IndexWrong h = absurd (false≢true h)
 
 -- a test with a reason of its own did not hold
 missed : (b : Bool) (k r : Reason) → is-done k ≡ false → cond b k r ≡ Done → (b ≡ false) × (r ≡ Done)

@@ -32,3 +32,9 @@ pub const BODIES_AT: usize = FREE_AT + NODE_LIMIT;
 
 // How many words a table has.
 pub const TABLE_WORDS: usize = BODIES_AT + GROUP_LIMIT * NAMES_PER_GROUP;
+
+// A row of the index has so many words: its key, and a name.
+pub const ROW_WORDS: usize = 2;
+
+// How many words an index has: a row for each name that a table can hold.
+pub const INDEX_WORDS: usize = ROW_WORDS * GROUP_LIMIT * NAMES_PER_GROUP;

@@ -2,28 +2,30 @@
 -- order of their numbers.
 -- Assumes nothing.
 use mathlib.Core.Path.{_≡_, refl, sym, ap, _∙_}
-use mathlib.Core.Logic.{_↔_, _⊎_, inl, inr}
+use mathlib.Core.Logic.{_↔_, _⊎_, inl, inr, ⊎-elim}
 use mathlib.Core.Bool.{Bool, true, false, cond, false≢true, and-eq-true-iff}
 use mathlib.Core.List.{List, [], _∷_, map, List·Memᴰ, List·Memᴰ·head, List·Memᴰ·tail, List·Memᴰ·not-nil}
 use Prim.Native.Nat.{ℕ, _+_, _≤_, _<_}
 use native.Mathlib.Omega.{arith}
 use lib.Dec.{ltb}
 use borrow.Author.Tests.{ltb-true, ltb-false}
+use Rattle.nodes.specs.Bools.{by-lt}
 use Rattle.answers.specs.Answers.{number, rank, of-01}
 use Rattle.semantics.specs.Test.{ascending}
 use Rattle.semantics.specs.FirstReason.{Test, first, opening-tests}
 use Rattle.commands.specs.declared.Command.{Command}
 use Rattle.commands.specs.declared.Command.the-variants.{RegisterName, ReRegisterName, UnregisterName, RegisteredNames, WhereisName, WhereisNameAt, Send, SendName, SendAt, NewSGroup, AddNodes, RemoveNodes, DeleteSGroup, OwnNodes, OwnSGroups}
 use Rattle.answers.specs.declared.Reason.{Reason}
-use Rattle.answers.specs.declared.Reason.the-variants.{Done, TableLength, RosterSize, Unsound, CallerUnknown, GroupNameRange, NameZero, NodeUnknown, GroupUnknown, NotMember, NameTaken, PidTaken, NotRegistered, NamespaceFull, CallerOutside, GroupTaken, GroupsFull, RunShort, NoLaunchFile, GroupsDiffer, AtomUnknown, HostOutside}
+use Rattle.answers.specs.declared.Reason.the-variants.{Done, TableLength, RosterSize, Unsound, CallerUnknown, GroupNameRange, NameZero, NodeUnknown, GroupUnknown, NotMember, NameTaken, PidTaken, NotRegistered, NamespaceFull, CallerOutside, GroupTaken, GroupsFull, RunShort, NoLaunchFile, GroupsDiffer, AtomUnknown, HostOutside, IndexWrong}
 use Rattle.published.specs.Published.{Published}
 use Rattle.published.specs.Refusals.{Lowest, tests}
 
 -- ---- ranks
 
--- how many reasons of 02 are tested before the reason of 01 with this number: the three of launching, behind 7 (21 is behind all)
+-- how many reasons of 02 are tested before the reason of 01 with this number: that of the index, behind 3, and the three of launching, behind 7 (21 is
+-- behind all)
 earlier : ℕ → ℕ
-earlier k = cond (ltb (number NodeUnknown) k) 3 0
+earlier k = cond (ltb (number Unsound) k) 1 0 + cond (ltb (number NodeUnknown) k) 3 0
 
 -- the rank of a reason of 01
 rank-is : (r : Reason) → of-01 r ≡ true → rank r ≡ earlier (number r) + number r
@@ -50,16 +52,23 @@ rank-is NoLaunchFile h = absurd (false≢true h)
 rank-is GroupsDiffer h = absurd (false≢true h)
 rank-is AtomUnknown h = absurd (false≢true h)
 rank-is HostOutside h = absurd (false≢true h)
+rank-is IndexWrong h = absurd (false≢true h)
+
+-- and it never falls
+never-falls : (k a b : ℕ) (m : ℕ) → a ≤ b → cond (ltb k a) m 0 ≤ cond (ltb k b) m 0
+never-falls k a b m h = go (ltb k a) refl (ltb k b) refl
+  where
+    go : (x : Bool) → ltb k a ≡ x → (y : Bool) → ltb k b ≡ y → cond x m 0 ≤ cond y m 0
+    go true p true q = omega arith
+    go true p false q = let u = ltb-true k a p in let v = ltb-false k b q in absurd (omega arith)
+    go false p y q = omega arith
 
 rises : (a b : ℕ) → (earlier a + a < earlier b + b) ↔ (a < b)
 unfolding earlier
-rises a b = go (ltb 7 a) refl (ltb 7 b) refl
-  where
-    go : (x : Bool) → ltb 7 a ≡ x → (y : Bool) → ltb 7 b ≡ y → (cond x 3 0 + a < cond y 3 0 + b) ↔ (a < b)
-    go true p true q = (λ h. omega arith, λ h. omega arith)
-    go true p false q = let u = ltb-true 7 a p in let v = ltb-false 7 b q in (λ h. omega arith, λ h. omega arith)
-    go false p true q = let u = ltb-false 7 a p in let v = ltb-true 7 b q in (λ h. omega arith, λ h. omega arith)
-    go false p false q = (λ h. omega arith, λ h. omega arith)
+rises a b = (
+  λ h. ⊎-elim (λ (p : a < b). p) (λ (p : b ≤ a). absurd (omega (arith, never-falls 3 b a 1 p, never-falls 7 b a 3 p))) (by-lt a b),
+  λ h. omega (arith, never-falls 3 a b 1 (omega arith), never-falls 7 a b 3 (omega arith)),
+)
 
 -- by rank is by number, as 01 has it
 pub by-number : (r q : Reason) → of-01 r ≡ true → of-01 q ≡ true → (rank r < rank q) ↔ (number r < number q)

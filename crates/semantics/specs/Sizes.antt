@@ -39,6 +39,15 @@ bodies-at = free-at + node-limit
 abbrev pub table-words : ℕ → ℕ
 table-words cap = bodies-at + group-limit * cap
 
--- these are 01's figures
+-- how many words a row of the index has
+abbrev pub row-words : ℕ
+row-words = 2
+
+-- how many words an index has, with cap names an s_group: a row for each name that a table can hold
+abbrev pub index-words : ℕ → ℕ
+index-words cap = row-words * (group-limit * cap)
+
+-- these are 01's figures, and 02's for the index
 pub figures : (contents-at ≡ 4) × (members-at ≡ 36) × (links-at ≡ 68) × (free-at ≡ 132) × (bodies-at ≡ 196) × (table-words names-per-group ≡ 1220)
-figures = (refl, refl, refl, refl, refl, refl)
+    × (index-words names-per-group ≡ 2048)
+figures = (refl, refl, refl, refl, refl, refl, refl)

@@ -1,0 +1,4 @@
+pub mod Index
+pub mod Ascending
+pub mod IndexCalls
+pub mod Updates

@@ -2,3 +2,5 @@ pub mod Index
 pub mod Ascending
 pub mod IndexCalls
 pub mod Updates
+pub mod Sorting
+pub mod Flat

@@ -4,3 +4,4 @@ pub mod IndexCalls
 pub mod Updates
 pub mod Sorting
 pub mod Flat
+pub mod WalkLaws

@@ -5,3 +5,4 @@ pub mod Updates
 pub mod Sorting
 pub mod Flat
 pub mod WalkLaws
+pub mod StepRows

@@ -4,3 +4,5 @@ pub mod IndexCalls
 pub mod Updates
 pub mod Sorting
 pub mod Flat
+pub mod WalkLaws
+pub mod StepRows

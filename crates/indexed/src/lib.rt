@@ -133,7 +133,13 @@ pub fn names_of(table: &[u64], index: &[u64], p: u32, out: &mut [u64]) -> Answer
 // ---- the commands that only read: a caller may hold a table that it cannot lend for writing, as a const one of C
 
 // The names of the s_group, listed in the run.
-pub fn registered_names(table: &[u64], index: &[u64], caller: u32, s: u32, out: &mut [u64]) -> Answer
+pub fn registered_names(
+    table: &[u64],
+    index: &[u64],
+    caller: u32,
+    s: u32,
+    out: &mut [u64],
+) -> Answer
     ensures { λ r. ⌜ r ≡ indexed (length (now (out .entry))) caller (RegisteredNames s) (now (table .entry)) (now (index .entry)) .given .answer ⌝ }
     ensures { λ _. ⌜ now (out .exit) ≡ listed-over (indexed (length (now (out .entry))) caller (RegisteredNames s) (now (table .entry)) (now (index .entry)) .given .list) (now (out .entry)) ⌝ }
 {

@@ -23,7 +23,7 @@ use Rattle.semantics.specs.Ranges.{held, bad-group}
 use Rattle.semantics.specs.Steps.{Outcome, Result, target, as-member, full, name-words, inside, outcome, apply, settle, group-step, link, merge, connect, become-free, ask, send-on, for-member, left-in, rule, step}
 use Rattle.semantics.specs.Regular.{Regular}
 use Rattle.semantics.specs.Fits.{Fits}
-use Rattle.semantics.specs.Truth.{neither}
+use Rattle.semantics.specs.NamesKept.{fresh-remove}
 use Rattle.semantics.specs.StepsKeep.{keeps}
 use Rattle.indexes.specs.Index.{Row, key-of, walk, put-in, sorted, keep}
 use Rattle.indexes.specs.Sorting.{sorted-keep}
@@ -41,17 +41,6 @@ rows-in gs = sorted (walk gs)
 -- rows that are kept in the walk are kept among the sorted ones
 kept-rows : {st : State} → Regular names-per-group st → (p : Row → Bool) {xs : List Row} → xs ≡ keep p (walk (st .groups)) → sorted xs ≡ keep p (rows-in (st .groups))
 kept-rows {st} w p e = ap sorted e ∙ sorted-keep p (walk (st .groups)) (walk-distinct names-per-group st w)
-
--- a pid that is not held is not held with a name less
-fresh-remove : (n q : ℕ) (es : List Entry) → holds-pid q es ≡ false → holds-pid q (remove n es) ≡ false
-unfolding holds-pid remove
-fresh-remove n q [] h = refl
-fresh-remove n q (e ∷ es) h =
-    let parts = neither (eqb (e .pid) q) (holds-pid q es) h in
-    ⊎-elim
-    (λ (t : eqb (e .name) n ≡ true). rw t (parts .1))
-    (λ (t : eqb (e .name) n ≡ false). rw (t, parts .0) (fresh-remove n q es (parts .1)))
-    (by-test (eqb (e .name) n))
 
 module _ {st : State} (w : Regular names-per-group st) (s : ℕ) (g : Group) (f : find s (st .groups) ≡ some g) where
   -- the name n registered anew, with the pid p
@@ -221,11 +210,11 @@ follows-rule room i OwnSGroups {st} w = quiet-result st _ refl
 
 -- ---- every step
 
-pub step-rows : (room i : ℕ) (c : Command) (st : State) → Regular names-per-group st → Fits c
+pub step-rows : (room i : ℕ) (c : Command) (st : State) → Regular names-per-group st
     → sorted (walk (step room i c st .next .groups))
     ≡ cond (eqb (number (step room i c st .answer .reason)) 0) (updated (update-of c (st .groups)) (sorted (walk (st .groups)))) (sorted (walk (st .groups)))
 unfolding step
-step-rows room i c st w b = whole .rows
+step-rows room i c st w = whole .rows
   where
     whole : Follows (λ r. r) st (update-of c (st .groups)) (step room i c st)
     whole = by-case (leb (st .size) i) (λ x. record { rows = refl }) (λ x. follows-rule room i c w)

@@ -31,7 +31,7 @@ host-found size n p (e ∷ es) h f =
     (by-test (eqb (e .name) n))
 
 -- a pid that is not held is not held with a name less
-fresh-remove : (n q : ℕ) (es : List Entry) → holds-pid q es ≡ false → holds-pid q (remove n es) ≡ false
+pub fresh-remove : (n q : ℕ) (es : List Entry) → holds-pid q es ≡ false → holds-pid q (remove n es) ≡ false
 unfolding holds-pid remove
 fresh-remove n q [] h = refl
 fresh-remove n q (e ∷ es) h =

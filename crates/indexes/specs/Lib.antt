@@ -5,4 +5,5 @@ pub mod Updates
 pub mod Sorting
 pub mod Flat
 pub mod WalkLaws
+pub mod WalkWords
 pub mod StepRows

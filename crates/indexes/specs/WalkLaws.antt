@@ -40,7 +40,7 @@ unfolding walk
 walk-append [] b = refl
 walk-append (g ∷ a) b = rw (walk-append a b) (sym (append-assoc (rows (g .name) (g .names)) (walk a) (walk b)))
 
-length-rows : (s : ℕ) (es : List Entry) → length (rows s es) ≡ length es
+pub length-rows : (s : ℕ) (es : List Entry) → length (rows s es) ≡ length es
 unfolding rows
 length-rows s [] = refl
 length-rows s (e ∷ es) = rw (length-rows s es)

@@ -1,14 +1,14 @@
 -- Rows kept in place: those that stay move to the front one by one, and the words behind them are cleared. Assumes nothing.
 use mathlib.Core.Path.{_≡_, refl, sym, ap, _∙_}
 use mathlib.Core.Logic.{⊎-elim}
-use mathlib.Core.List.{List, [], _∷_, _++_, append-assoc, append-nil}
+use mathlib.Core.List.{List, [], _∷_, _++_, append-nil}
 use mathlib.Core.Bool.{Bool, true, false}
 use Prim.Native.Nat.{ℕ, suc, _+_, _-_, _*_, _≤_, _<_}
 use native.Mathlib.Nat.{add-zero}
 use native.Mathlib.Numerals.{add-one}
 use native.Mathlib.Omega.{arith}
 use mir.Val.{boolByte}
-use lib.ListN.{length, getD, set, take, drop, replicate, length-append, length-drop, length-set, drop-of-length-le, replicate-append-replicate}
+use lib.ListN.{length, getD, set, take, drop, replicate, length-append, length-drop, drop-of-length-le, replicate-append-replicate}
 use lib.Seq.{take-suc, drop-cons, take-all, take-at, take-set-le, drop-set-lt, drop-drop, getD-drop, length-take-le, sets-eq}
 use Rattle.nodes.specs.Bools.{by-test}
 use Rattle.semantics.specs.Sizes.{row-words}
@@ -16,6 +16,7 @@ use Rattle.indexes.specs.Index.{Row, flat, laid, keep}
 use Rattle.indexes.specs.Flat.{length-flat, flat-append, no-row, row-at}
 use Rattle.index_rows.specs.Filled.{Fills}
 
+-- rows may be kept part by part
 keep-append : (p : Row → Bool) (a b : List Row) → keep p (a ++ b) ≡ keep p a ++ keep p b
 unfolding keep
 keep-append p [] b = refl
@@ -50,10 +51,12 @@ module _ {p : Row → Bool} {xs : List Row} {z : List ℕ} {j kept : ℕ} {run :
   unfolding flat
   words-here = w .later ∙ rw (drop-cons xs j no-row some)
 
+  -- what stays of one row more
   one-more : keep p (take (suc j) xs) ≡ keep p (take j xs) ++ keep p (row-at j xs ∷ [])
   one-more = rw (take-suc xs j no-row some) (keep-append p (take j xs) (row-at j xs ∷ []))
 
   module _ (i : ℕ) (place : i ≡ row-words * j) where
+    -- its key and its name, read at i
     pub key-here : getD run i 0 ≡ row-at j xs .key
     key-here = rw (place, ← add-zero (row-words * j), ← getD-drop (row-words * j) run 0 0, words-here)
 
@@ -61,12 +64,14 @@ module _ {p : Row → Bool} {xs : List Row} {z : List ℕ} {j kept : ℕ} {run :
     name-here = rw (place, ← getD-drop (row-words * j) run 1 0, words-here)
 
     module _ (behind : kept ≤ i) (room : i + row-words ≤ length run) where
+      -- the words behind it stay as they were
       later-on : (a b : ℕ) → drop (row-words * suc j) (set (set run kept a) (kept + 1) b) ≡ flat (drop (suc j) xs) ++ z
       later-on a b =
           let next : row-words * suc j ≡ row-words * j + row-words = omega arith in
           drop-set-lt (row-words * suc j) (set run kept a) (kept + 1) b (omega arith) ∙ drop-set-lt (row-words * suc j) run kept a (omega arith)
           ∙ rw (next, ← drop-drop row-words (row-words * j) run, words-here)
 
+      -- it goes
       gone : p (row-at j xs) ≡ false → (a b : ℕ) → Swept p xs z (suc j) kept (set (set run kept a) (kept + 1) b)
       unfolding keep
       gone h a b =
@@ -77,6 +82,7 @@ module _ {p : Row → Bool} {xs : List Row} {z : List ℕ} {j kept : ℕ} {run :
             later = later-on a b;
           }
 
+      -- it stays
       stayed : p (row-at j xs) ≡ true → Swept p xs z (suc j) (kept + row-words) (set (set run kept (getD run i 0)) (kept + 1) (getD run (i + 1) 0))
       unfolding keep flat
       stayed h =

@@ -120,6 +120,11 @@ distinct-walk cap N b (g ∷ gs) r e =
 pub walk-distinct : (cap : ℕ) (st : State) → Regular cap st → Distinct (walk (st .groups))
 walk-distinct cap st w = distinct-walk cap (st .size) 0 (st .groups) (w .rising) (w .each)
 
+-- rows behind others
+pub distinct-behind : (xs ys : List Row) → Distinct (xs ++ ys) → Distinct ys
+distinct-behind [] ys d = d
+distinct-behind (x ∷ xs) ys d = distinct-behind xs ys (d .1 .1)
+
 small-rows : (s : ℕ) (es : List Entry) (xs : List Row) → s < group-names → Small xs → Small (rows s es ++ xs)
 unfolding rows
 small-rows s [] xs h a = a

@@ -2,11 +2,11 @@
 use mathlib.Core.Path.{_≡_, sym, ap, _∙_}
 use mathlib.Core.Bool.{true}
 use mathlib.Core.List.{List, [], _++_}
-use Prim.Native.Nat.{ℕ, _+_, _-_, _/_, _%_, _≤_, _<_}
+use Prim.Native.Nat.{ℕ, _+_, _-_, _*_, _/_, _%_, _≤_, _<_}
 use native.Mathlib.Nat.{add-assoc}
 use native.Mathlib.Numerals.{add-one}
 use native.Mathlib.Omega.{arith}
-use lib.ListN.{length, getD, take, drop, length-append, length-drop}
+use lib.ListN.{length, getD, take, drop, length-append, length-drop, take-append-drop}
 use lib.Seq.{drop-cons, drop-length, getD-take, getD-drop, length-take-le, ext-getD}
 use Rattle.entries.specs.Entries.{words, entries}
 use Rattle.entries.specs.Storage.{length-words, entries-words}
@@ -23,7 +23,8 @@ use Rattle.semantics.specs.WordsMeaning.{Means, counted-regular, regular-means}
 use Rattle.semantics.specs.WordsOfState.{length-of}
 use Rattle.semantics.specs.Agree.{test-regular, test-laid}
 use Rattle.indexes.specs.Index.{rows, walk}
-use Rattle.indexes.specs.WalkLaws.{length-rows}
+use Rattle.indexes.specs.Ascending.{Distinct}
+use Rattle.indexes.specs.WalkLaws.{walk-append, length-rows, length-walk-fits, distinct-behind, walk-distinct}
 
 module _ (cap : ℕ) (t : List ℕ) (ok : sound cap t ≡ true) where
   regular : Regular cap (state-of cap t)
@@ -46,6 +47,25 @@ module _ (cap : ℕ) (t : List ℕ) (ok : sound cap t ≡ true) where
   pub walk-end : walk (drop (count-of t) (state-of cap t .groups)) ≡ []
   unfolding walk
   walk-end = rw (groups-counted, drop-length (state-of cap t .groups))
+
+  -- ---- the s_groups from place g on
+
+  walk-parts : (g : ℕ) → walk (state-of cap t .groups) ≡ walk (take g (state-of cap t .groups)) ++ walk (drop g (state-of cap t .groups))
+  walk-parts g = ap walk (sym (take-append-drop g (state-of cap t .groups))) ∙ walk-append (take g (state-of cap t .groups)) (drop g (state-of cap t .groups))
+
+  pub walk-fits : (g : ℕ) → length (walk (drop g (state-of cap t .groups))) ≤ group-limit * cap
+  walk-fits g =
+      omega (
+        arith,
+        ap length (walk-parts g),
+        length-append (walk (take g (state-of cap t .groups))) (walk (drop g (state-of cap t .groups))),
+        length-walk-fits cap (state-of cap t .size) (state-of cap t .groups) (regular .each) (regular .groups-few),
+      )
+
+  pub walk-distinct-from : (g : ℕ) → Distinct (walk (drop g (state-of cap t .groups)))
+  walk-distinct-from g =
+      distinct-behind (walk (take g (state-of cap t .groups))) (walk (drop g (state-of cap t .groups)))
+      (rw (walk-parts g) at (walk-distinct cap (state-of cap t) regular))
 
   -- ---- the s_group at place g
 

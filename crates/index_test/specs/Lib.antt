@@ -1,1 +1,1 @@
-pub mod Ascends
+pub mod Right

@@ -50,7 +50,7 @@ line-cut x (y ∷ ys) h = go (eqb x newline) h (line-cut y ys)
     go true h f = absurd (omega arith)
     go false h f = rw (f (omega arith))
 
-lines-first : (s : List ℕ) → 0 < length s → lines-of s ≡ first-of s ∷ lines-of (drop (size-of (first-of s)) s)
+pub lines-first : (s : List ℕ) → 0 < length s → lines-of s ≡ first-of s ∷ lines-of (drop (size-of (first-of s)) s)
 unfolding first-of size-of lines-of
 lines-first [] h = absurd (omega arith)
 lines-first (x ∷ xs) h = go (ltb (find-in newline (x ∷ xs)) (suc (length xs))) refl
@@ -66,7 +66,7 @@ lines-first (x ∷ xs) h = go (ltb (find-in newline (x ∷ xs)) (suc (length xs)
     go false e = rw (drop-length xs) (line-cut x xs (ltb-false _ _ e))
 
 -- it has a byte at least, and is no longer than the bytes
-size-first : (s : List ℕ) → 0 < length s → (0 < size-of (first-of s)) × (size-of (first-of s) ≤ length s)
+pub size-first : (s : List ℕ) → 0 < length s → (0 < size-of (first-of s)) × (size-of (first-of s) ≤ length s)
 unfolding first-of size-of
 size-first s h = go (ltb (find-in newline s) (length s)) refl
   where

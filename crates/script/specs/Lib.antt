@@ -1,4 +1,5 @@
 pub mod Scripts
 pub mod FirstLines
+pub mod BadLines
 pub mod Whole
 pub mod Sample

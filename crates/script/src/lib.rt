@@ -4,8 +4,9 @@ ghost use mathlib.Core.List.{List};
 ghost use Prim.Native.Nat.{ℕ, _<_};
 ghost use lib.ListN.{length};
 ghost use Rattle.print.specs.Sheets.{sheet};
-ghost use Rattle.script.specs.Scripts.{script-limit, lines-from, size-of, stop, runs};
+ghost use Rattle.script.specs.Scripts.{script-limit, lines-of, lines-from, size-of, stop, runs};
 ghost use Rattle.script.specs.FirstLines.{first-of, asks};
+ghost use Rattle.script.specs.BadLines.{is-bad, first-bad};
 use line::Request;
 
 // The run for a list has so many words.
@@ -87,4 +88,37 @@ pub fn run(script: &[u8], from: usize, table: &mut [u64], out: &mut [u8]) -> Ran
         at += size;
     }
     Ran { next: at, len: len }
+}
+
+// Whether a request is what a bad line asks.
+fn is_bad(request: Request) -> bool
+    ensures { λ r. ⌜ r ≡ is-bad request ⌝ }
+{
+    match request {
+        Request::Open(_, _) => false,
+        Request::Command {
+            caller: _,
+            command: _,
+        } => false,
+        Request::BadLine => true,
+    }
+}
+
+// The number of the first line of a script that is bad, from 1; 0 where none is.
+pub fn bad_line(script: &[u8]) -> usize
+    ensures { λ r. ⌜ r ≡ first-bad 1 (lines-of (now (script .entry))) ⌝ }
+{
+    let mut at = 0;
+    let mut number = 1;
+    while at < script.len() {
+        let head = first(&script[at..]);
+        let size = head.size;
+        let request = head.request;
+        if is_bad(request) {
+            return number;
+        }
+        at += size;
+        number += 1;
+    }
+    0
 }

@@ -1,3 +1,4 @@
 pub mod Right
 pub mod Named
 pub mod Words
+pub mod Held

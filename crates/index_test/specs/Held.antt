@@ -1,6 +1,5 @@
 -- A row that the walk over a sound table holds, told by the words of its s_group. Assumes nothing.
-use mathlib.Core.Path.{_≡_, refl, sym, _∙_}
-use mathlib.Core.Logic.{⊎-elim}
+use mathlib.Core.Path.{_≡_, refl, sym, ap, _∙_}
 use mathlib.Core.Bool.{true, false, _&&_, and-eq-true-iff}
 use mathlib.Core.List.{List, [], _∷_}
 use Prim.Native.Nat.{ℕ, zero, suc, _+_, _-_, _*_, _≤_, _<_}
@@ -13,17 +12,19 @@ use Rattle.nodes.specs.Bools.{test-ext}
 use Rattle.entries.specs.Entries.{Entry, half-word, word-of, words}
 use Rattle.entries.specs.NamespaceSound.{Ascending, Sound}
 use Rattle.semantics.specs.Sizes.{names-per-group}
+use Rattle.semantics.specs.State.{Group}
 use Rattle.semantics.specs.Test.{sound}
 use Rattle.semantics.specs.Soundness.{count-of, name-of}
 use Rattle.semantics.specs.Regular.{Regular-group}
 use Rattle.semantics.specs.Places.{no-group, group-at, every-iff}
 use Rattle.semantics.specs.Bodies.{own-at}
 use Rattle.semantics.specs.OneGroup.{group-words}
-use Rattle.place.specs.Sound.{here, regular, base}
+use Rattle.place.specs.Seats.{Seat, Room, seat-group}
+use Rattle.place.specs.Sound.{here, regular, base, seat-below}
 use Rattle.indexes.specs.Index.{Row, key-of, pid-of, group-of, rows, walk}
 use Rattle.indexes.specs.Ascending.{holds}
 use Rattle.indexes.specs.WalkWords.{groups-counted}
-use Rattle.indexes.specs.TestLaws.{holds-group}
+use Rattle.indexes.specs.TestLaws.{holds-none, holds-group}
 use Rattle.index_test.specs.Right.{holds-word}
 use Rattle.index_test.specs.Named.{name-here}
 
@@ -84,3 +85,14 @@ module _ (t : List ℕ) (ok : sound names-per-group t ≡ true) (g : ℕ) (h : g
   held-words r q l n =
       sym (holds-group names-per-group (here t .size) r 0 (here t .groups) (regular t ok .rising) (regular t ok .each) g counted (sym (q ∙ name-here t ok g h))
       ∙ rows-words names-per-group 0 r (group-at (here t .groups) g .names) (names-sound .names) (names-sound .room) l n)
+
+-- ---- the s_group of a name
+
+module _ (t : List ℕ) (ok : sound names-per-group t ≡ true) where
+  -- where it stands, its name is told
+  pub seat-name : (s k : ℕ) → Seat s k (here t .groups) → s ≡ name-of t k
+  seat-name s k w = sym (name-here t ok k (seat-below t ok w) ∙ ap (λ (g : Group). g .name) (seat-group w) ∙ w .named)
+
+  -- where there is none, no row of it is held
+  pub not-held : (r : Row) (k : ℕ) → Room (group-of r) k (here t .groups) → false ≡ holds r (walk (here t .groups))
+  not-held r k w = sym (holds-none names-per-group (here t .size) r (here t .groups) (regular t ok .each) (w .finds))

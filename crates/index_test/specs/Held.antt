@@ -16,6 +16,7 @@ use Rattle.semantics.specs.State.{Group}
 use Rattle.semantics.specs.Test.{sound}
 use Rattle.semantics.specs.Soundness.{count-of, name-of}
 use Rattle.semantics.specs.Regular.{Regular-group}
+use Rattle.semantics.specs.Truth.{unless}
 use Rattle.semantics.specs.Places.{no-group, group-at, every-iff}
 use Rattle.semantics.specs.Bodies.{own-at}
 use Rattle.semantics.specs.OneGroup.{group-words}
@@ -24,7 +25,7 @@ use Rattle.place.specs.Sound.{here, regular, base, seat-below}
 use Rattle.indexes.specs.Index.{Row, key-of, pid-of, group-of, rows, walk}
 use Rattle.indexes.specs.Ascending.{holds}
 use Rattle.indexes.specs.WalkWords.{groups-counted}
-use Rattle.indexes.specs.TestLaws.{holds-none, holds-group}
+use Rattle.indexes.specs.TestLaws.{holds-none, holds-group, holds-named}
 use Rattle.index_test.specs.Right.{holds-word}
 use Rattle.index_test.specs.Named.{name-here}
 
@@ -96,3 +97,7 @@ module _ (t : List ℕ) (ok : sound names-per-group t ≡ true) where
   -- where there is none, no row of it is held
   pub not-held : (r : Row) (k : ℕ) → Room (group-of r) k (here t .groups) → false ≡ holds r (walk (here t .groups))
   not-held r k w = sym (holds-none names-per-group (here t .size) r (here t .groups) (regular t ok .each) (w .finds))
+
+  -- no row is held whose name is out of range
+  pub unnamed : (r : Row) → (0 < r .name → r .name < half-word → ⊥) → holds r (walk (here t .groups)) ≡ false
+  unnamed r out = unless _ (λ h. let p = holds-named names-per-group (here t .size) r (here t .groups) (regular t ok .each) h in out (p .0) (p .1))

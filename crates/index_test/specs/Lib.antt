@@ -2,3 +2,4 @@ pub mod Right
 pub mod Named
 pub mod Words
 pub mod Held
+pub mod Verdict

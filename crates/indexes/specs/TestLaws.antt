@@ -5,15 +5,17 @@ use mathlib.Core.Logic.{⊎-elim}
 use mathlib.Core.Bool.{Bool, true, false, _&&_, _||_, false≢true, or-false, or-assoc, and-eq-true-iff}
 use mathlib.Core.Option.{none, some}
 use mathlib.Core.List.{List, [], _∷_, _++_}
-use Prim.Native.Nat.{ℕ, zero, suc, _+_, _*_, _≤_, _<_}
+use Prim.Native.Nat.{ℕ, zero, suc, _+_, _-_, _*_, _≤_, _<_}
+use native.Mathlib.Numerals.{add-one}
 use native.Mathlib.Omega.{arith}
 use lib.Dec.{eqb}
-use lib.ListN.{length}
+use lib.ListN.{length, getD, drop}
+use lib.Seq.{drop-cons}
 use borrow.Author.Tests.{eq-eqb, ne-eqb, eqb-true, eqb-false}
 use Rattle.nodes.specs.Bools.{by-test, by-eq}
 use Rattle.entries.specs.Entries.{Entry, half-word}
 use Rattle.entries.specs.NamespaceSound as Namespace
-use Rattle.semantics.specs.Sizes.{group-names}
+use Rattle.semantics.specs.Sizes.{group-names, row-words}
 use Rattle.semantics.specs.State.{Group, find}
 use Rattle.semantics.specs.Regular.{Every, Rising, Regular-group}
 use Rattle.semantics.specs.Truth.{or-cases}
@@ -21,6 +23,7 @@ use Rattle.semantics.specs.Places.{group-at, rising-iff}
 use Rattle.indexes.specs.Index.{Row, key-of, group-of, rows, walk, sorted}
 use Rattle.indexes.specs.Ascending.{Ascending, Distinct, holds, all-held}
 use Rattle.indexes.specs.Sorting.{length-sorted, holds-key-low, sorted-ascending, holds-put-in, sorted-holds, sorted-is}
+use Rattle.indexes.specs.Flat.{read-rows}
 
 -- ---- which rows a walk holds
 
@@ -118,3 +121,24 @@ sorted-held xs ws s d n h =
 -- rows are held when sorted
 pub held-sorted : (ws : List Row) → all-held (sorted ws) ws ≡ true
 held-sorted ws = sym (all-held-sorted (sorted ws) ws) ∙ all-held-own (sorted ws)
+
+-- ---- rows read one by one
+
+-- the row at k in the words
+abbrev pub row-in : ℕ → List ℕ → Row
+row-in k ws = record { key = getD ws (row-words * k) 0; name = getD ws (row-words * k + 1) 0 }
+
+-- the rows from k on
+abbrev pub rows-from : ℕ → ℕ → List ℕ → List Row
+rows-from k n ws = read-rows (n - k) (drop (row-words * k) ws)
+
+pub rows-next : (k n : ℕ) (ws : List ℕ) → k < n → row-words * n ≤ length ws → rows-from k n ws ≡ row-in k ws ∷ rows-from (k + 1) n ws
+unfolding read-rows
+rows-next k n ws h l =
+    let left : n - k ≡ suc (n - (k + 1)) = omega arith in
+    let on : row-words * (k + 1) ≡ suc (suc (row-words * k)) = omega arith in
+    rw (left, on, drop-cons ws (row-words * k) 0 (omega arith), drop-cons ws (suc (row-words * k)) 0 (omega arith), add-one (row-words * k))
+
+pub rows-none : (k n : ℕ) (ws : List ℕ) → n ≤ k → rows-from k n ws ≡ []
+unfolding read-rows
+rows-none k n ws h = let none : n - k ≡ 0 = omega arith in rw none

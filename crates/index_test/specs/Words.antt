@@ -1,5 +1,5 @@
 -- A word among words that ascend before zeros, found by halves; the words of a sound namespace are such. Assumes nothing.
-use mathlib.Core.Path.{_≡_, refl, sym, ap, _∙_}
+use mathlib.Core.Path.{_≡_, sym, ap, _∙_}
 use mathlib.Core.Logic.{_↔_, ⊎-elim}
 use mathlib.Core.Bool.{Bool, true, false, not, _&&_, true≢false, false≢true, or-true, and-eq-true-iff}
 use mathlib.Core.List.{List, [], _∷_}

@@ -1,8 +1,8 @@
 -- Rows compared with a walk: which it holds, by s_group and by name; ascending rows that are all held and as many; and rows read off words one by one.
 -- Assumes nothing.
-use mathlib.Core.Path.{_≡_, refl, sym, ap, _∙_}
+use mathlib.Core.Path.{_≡_, refl, sym, _∙_}
 use mathlib.Core.Logic.{⊎-elim}
-use mathlib.Core.Bool.{Bool, true, false, _&&_, _||_, false≢true, or-false, or-assoc, and-eq-true-iff}
+use mathlib.Core.Bool.{true, false, _&&_, _||_, false≢true, or-false, or-assoc, and-eq-true-iff}
 use mathlib.Core.Option.{none, some}
 use mathlib.Core.List.{List, [], _∷_, _++_}
 use Prim.Native.Nat.{ℕ, zero, suc, _+_, _-_, _*_, _≤_, _<_}
@@ -11,8 +11,8 @@ use native.Mathlib.Omega.{arith}
 use lib.Dec.{eqb}
 use lib.ListN.{length, getD, drop}
 use lib.Seq.{drop-cons}
-use borrow.Author.Tests.{eq-eqb, ne-eqb, eqb-true, eqb-false}
-use Rattle.nodes.specs.Bools.{by-test, by-eq}
+use borrow.Author.Tests.{eq-eqb, ne-eqb, eqb-true}
+use Rattle.nodes.specs.Bools.{by-eq}
 use Rattle.entries.specs.Entries.{Entry, half-word}
 use Rattle.entries.specs.NamespaceSound as Namespace
 use Rattle.semantics.specs.Sizes.{group-names, row-words}
@@ -38,15 +38,6 @@ unfolding holds rows
 holds-other r s [] h d = refl
 holds-other r s (e ∷ es) h d = rw (ne-eqb (key-of (e .pid) s) (r .key) (λ q. d (omega (arith, q)))) (holds-other r s es h d)
 
--- the first s_group is another, and so is each after it
-not-found : (s : ℕ) (g : Group) (gs : List Group) → find s (g ∷ gs) ≡ none → (g .name ≡ s → ⊥) × (find s gs ≡ none)
-unfolding find
-not-found s g gs f =
-    ⊎-elim
-    (λ (t : eqb (g .name) s ≡ true). let q : some g ≡ none = rw t at f in let z : _≡_ {A = ℕ} 0 1 = cc in absurd (omega arith))
-    (λ (t : eqb (g .name) s ≡ false). (eqb-false (g .name) s t, rw t at f))
-    (by-test (eqb (g .name) s))
-
 -- no s_group has a name that is not above the bound
 none-below : (s b : ℕ) (gs : List Group) → Rising b gs → s ≤ b → find s gs ≡ none
 unfolding find
@@ -65,11 +56,15 @@ named-rows r s b (e ∷ es) a h =
 module _ (cap N : ℕ) where
   -- none whose s_group is not there
   pub holds-none : (r : Row) (gs : List Group) → Every (Regular-group cap N) gs → find (group-of r) gs ≡ none → holds r (walk gs) ≡ false
-  unfolding holds walk
+  unfolding holds walk find
   holds-none r [] e f = refl
   holds-none r (g ∷ gs) e f =
-      let p = not-found (group-of r) g gs f in
-      holds-append r (rows (g .name) (g .names)) (walk gs) ∙ rw (holds-other r (g .name) (g .names) (e .0 .small) (p .0)) (holds-none r gs (e .1) (p .1))
+      ⊎-elim
+      (λ (t : g .name ≡ group-of r). let q : some g ≡ none = rw (eq-eqb (g .name) (group-of r) t) at f in let z : _≡_ {A = ℕ} 0 1 = cc in absurd (omega arith))
+      (λ (t : g .name ≡ group-of r → ⊥).
+      holds-append r (rows (g .name) (g .names)) (walk gs)
+      ∙ rw (holds-other r (g .name) (g .names) (e .0 .small) t) (holds-none r gs (e .1) (rw (ne-eqb (g .name) (group-of r) t) at f)))
+      (by-eq (g .name) (group-of r))
 
   -- else those that the s_group has
   pub holds-group : (r : Row) (b : ℕ) (gs : List Group) → Rising b gs → Every (Regular-group cap N) gs → (k : ℕ) → k < length gs → group-at gs k .name ≡ group-of r

@@ -1,6 +1,6 @@
 -- `index_test::has_row` meets its contract: what a slot says of a place is taken only if the s_group there has the name. Assumes nothing.
 use borrow.Author.Needs.{needs}
-use mathlib.Core.Path.{_≡_, sym}
+use mathlib.Core.Path.{sym}
 use Prim.Native.Nat.{_%_, _≤_}
 use native.Mathlib.Omega.{arith}
 use lib.ListN.{getD}

@@ -7,9 +7,9 @@
  * is asked of a caller: each function is proved to end with the answer of its definition for every table, number and length, and to write what the
  * definition says and no other word.
  *
- * Threads: the library keeps nothing but what is in the runs. The five functions that take the table as `const` (sgroup_is_sound, sgroup_registered_names,
- * sgroup_whereis_name, sgroup_own_nodes, sgroup_own_s_groups) write nothing to it, so that any number of threads may call them on one table at the same
- * time, each with an `answer` and an `out` of its own, as long as nobody writes to the table meanwhile. Every other function needs the table to itself.
+ * Threads: the library keeps nothing but what is in the runs, and a function writes nothing to a run that it takes as `const`. So any number of threads may
+ * call functions with a `const` table on one table at the same time, as long as nobody writes to it meanwhile, and likewise on one index. Every run that
+ * is not `const`, `answer` and `out` among them, a call needs to itself.
  *
  * In a set of nodes the bit i is node i. A pid's host is the whole part of pid / 67108864.
  *
@@ -17,10 +17,15 @@
  * have are 0. It returns the reason. Where `answer` has fewer than four words nothing is called, nothing is written, and SGROUP_NO_ROOM is returned. The
  * words of a list go to a run of their own, the list run `out`.
  *
- * Success is SGROUP_DONE (0). The four functions that look a name up (sgroup_whereis_name, sgroup_whereis_name_at, sgroup_send_name, sgroup_send_at) have
- * SGROUP_HOST_OUTSIDE (21) as well, in place of 0 where the host of the pid that they find is not a member of the s_group: the kind is SGROUP_PID, the pid may
- * be used, and all is done as with 0. So test a lookup by its kind, or for both reasons. Every other reason is a refusal, also the 12 that
- * sgroup_unregister_name gives with TRUE: there was nothing to take out. */
+ * Success is SGROUP_DONE (0). The four functions that look a name up (sgroup_whereis_name, sgroup_whereis_name_at, sgroup_send_name, sgroup_send_at), with an
+ * index or without, have SGROUP_HOST_OUTSIDE (21) as well, in place of 0 where the host of the pid that they find is not a member of the s_group: the kind is
+ * SGROUP_PID, the pid may be used, and all is done as with 0. So test a lookup by its kind, or for both reasons. Every other reason is a refusal, also the
+ * 12 that sgroup_unregister_name gives with TRUE: there was nothing to take out.
+ *
+ * The index tells who goes by a pid. It is a run of SGROUP_INDEX_WORDS words that a caller may lend beside the table: a row of two words for each registered
+ * name, pid * 2^32 + s_group and then the name, ascending by the first word, and zeros behind the rows (docs/INDEX.md). Opening and each command have a
+ * second form that takes the index right after the table and keeps it. The forms without an index know nothing of it: where one has changed the names of
+ * the table, the next call with the index gives SGROUP_INDEX_WRONG (22), and sgroup_index writes the index anew. */
 #ifndef SGROUP_H
 #define SGROUP_H
 
@@ -32,16 +37,25 @@
 extern "C" {
 #endif
 
-/* how many words a table has, and an answer */
-#define SGROUP_TABLE_WORDS 1220
+/* how much there can be: nodes on a roster, s_groups in a table, names in an s_group */
+#define SGROUP_NODE_LIMIT 64
+#define SGROUP_GROUP_LIMIT 32
+#define SGROUP_NAMES_PER_GROUP 32
+
+/* how many words a table has: four, two for each s_group and each node, one for each name; how many an index: two for each name */
+#define SGROUP_TABLE_WORDS (4 + 2 * SGROUP_GROUP_LIMIT + 2 * SGROUP_NODE_LIMIT + SGROUP_GROUP_LIMIT * SGROUP_NAMES_PER_GROUP)
+#define SGROUP_INDEX_WORDS (2 * SGROUP_GROUP_LIMIT * SGROUP_NAMES_PER_GROUP)
+
+/* how many words an answer has, and the longest list: the names of an s_group, or two words for each s_group */
 #define SGROUP_ANSWER_WORDS 4
+#define SGROUP_LIST_WORDS (2 * SGROUP_GROUP_LIMIT < SGROUP_NAMES_PER_GROUP ? SGROUP_NAMES_PER_GROUP : 2 * SGROUP_GROUP_LIMIT)
 
 /* returned where `answer` is too short; no reason has this number */
 #define SGROUP_NO_ROOM UINT32_MAX
 
 /* the kinds of values: the first word of an answer */
 enum sgroup_kind {
-    SGROUP_OK = 1,            /* an opening or a launch went through */
+    SGROUP_OK = 1,            /* an opening or a launch went through, or an index is written */
     SGROUP_TRUE = 2,          /* true */
     SGROUP_FALSE = 3,         /* false */
     SGROUP_ERROR = 4,         /* error; first, of a refused launch: the place */
@@ -55,8 +69,8 @@ enum sgroup_kind {
 /* the reasons: the fourth word of an answer */
 enum sgroup_reason {
     SGROUP_DONE = 0,              /* the rule's main case */
-    SGROUP_TABLE_LENGTH = 1,      /* the table run isn't 1,220 words */
-    SGROUP_ROSTER_SIZE = 2,       /* opening: n isn't 1 to 64 */
+    SGROUP_TABLE_LENGTH = 1,      /* the table run isn't SGROUP_TABLE_WORDS long */
+    SGROUP_ROSTER_SIZE = 2,       /* opening: n isn't 1 to SGROUP_NODE_LIMIT */
     SGROUP_UNSOUND = 3,           /* the table is unsound (not for opening) */
     SGROUP_CALLER_UNKNOWN = 4,    /* the caller isn't on the roster */
     SGROUP_GROUP_NAME_RANGE = 5,  /* s_group name out of range */
@@ -67,22 +81,23 @@ enum sgroup_reason {
     SGROUP_NAME_TAKEN = 10,       /* name already registered there */
     SGROUP_PID_TAKEN = 11,        /* pid already registered there */
     SGROUP_NOT_REGISTERED = 12,   /* name not registered there */
-    SGROUP_NAMESPACE_FULL = 13,   /* the namespace holds 32 names and would grow */
+    SGROUP_NAMESPACE_FULL = 13,   /* the namespace holds SGROUP_NAMES_PER_GROUP names and would grow */
     SGROUP_CALLER_OUTSIDE = 14,   /* new_s_group: the caller isn't in the set */
     SGROUP_GROUP_TAKEN = 15,      /* new_s_group: name in use */
-    SGROUP_GROUPS_FULL = 16,      /* new_s_group: 32 s_groups exist; launching: more than 32 are to be made */
+    SGROUP_GROUPS_FULL = 16,      /* new_s_group: SGROUP_GROUP_LIMIT s_groups exist; launching: more are to be made */
     SGROUP_LIST_SHORT = 17,       /* the list run is shorter than the list */
     SGROUP_NO_LAUNCH_FILE = 18,   /* launching: the book is no book, or the file is no launch file */
     SGROUP_GROUPS_DIFFER = 19,    /* launching: groups of one name with other nodes, one of them with the starting node */
     SGROUP_ATOM_UNKNOWN = 20,     /* launching: an atom of a group that is made is not in its part of the book */
-    SGROUP_HOST_OUTSIDE = 21      /* no refusal: the pid that was found has its host outside the s_group */
+    SGROUP_HOST_OUTSIDE = 21,     /* no refusal: the pid that was found has its host outside the s_group */
+    SGROUP_INDEX_WRONG = 22       /* the index run isn't SGROUP_INDEX_WORDS long, or isn't the index of the table */
 };
 
 /* Whether the run is a sound table. Writes nothing. */
 bool sgroup_is_sound(const uint64_t *table, size_t table_len);
 
-/* Opens the table for n nodes, 1 to 64, some of them hidden: nobody is grouped or connected, and every normal node is a free group by itself.
- * OK; the table may hold anything before. Reasons 1, 2 and 7: ERROR, nothing is written to the table. */
+/* Opens the table for n nodes, 1 to SGROUP_NODE_LIMIT, some of them hidden: nobody is grouped or connected, and every normal node is a free group by
+ * itself. OK; the table may hold anything before. Reasons 1, 2 and 7: ERROR, nothing is written to the table. */
 uint32_t sgroup_open(uint64_t *table, size_t table_len, uint32_t n, uint64_t hidden, uint64_t *answer, size_t answer_len);
 
 /* Opens the table for n nodes, some of them hidden, and makes the s_groups of a launch file, each by its lowest member, in the order of the file. The book
@@ -153,6 +168,55 @@ uint32_t sgroup_own_nodes(const uint64_t *table, size_t table_len, uint32_t call
  * nothing is written to the list run. */
 uint32_t sgroup_own_s_groups(const uint64_t *table, size_t table_len, uint32_t caller, uint64_t *out, size_t out_len, uint64_t *answer,
                              size_t answer_len);
+
+/* ---- with an index */
+
+/* Writes the index of the table into the index run: for a table that was launched or stored, or whose index is behind. OK; the index run may hold anything
+ * before. Reasons 1, 3, and 22 for a wrong length, tested in this order: ERROR, nothing is written to the index run. */
+uint32_t sgroup_index(const uint64_t *table, size_t table_len, uint64_t *index, size_t index_len, uint64_t *answer, size_t answer_len);
+
+/* Who goes by the pid p: the s_groups in which it has a name, ascending, to the list run, two words each: s_group, name. LIST, the empty one where nobody
+ * does; only the list's words are written. Reasons 1, 3, 22, 7 and 17, tested in this order: ERROR, nothing is written to the list run. */
+uint32_t sgroup_names_of(const uint64_t *table, size_t table_len, const uint64_t *index, size_t index_len, uint32_t p, uint64_t *out, size_t out_len,
+                         uint64_t *answer, size_t answer_len);
+
+/* Opens the table as sgroup_open does; every word of the index becomes zero. OK; both may hold anything before. Reasons 1, 2, 22 for a wrong length of the
+ * index run, and 7, tested in this order: ERROR, nothing is written to either. */
+uint32_t sgroup_open_indexed(uint64_t *table, size_t table_len, uint64_t *index, size_t index_len, uint32_t n, uint64_t hidden, uint64_t *answer,
+                             size_t answer_len);
+
+/* The commands with an index. Reasons 1, 3 and 22, tested in this order: ERROR, nothing is written to table, index and list run. Otherwise each does and
+ * answers what its form without an index does, and what it leaves in the index run is the index of the table that it leaves, also where it refuses. */
+uint32_t sgroup_register_name_indexed(uint64_t *table, size_t table_len, uint64_t *index, size_t index_len, uint32_t caller, uint32_t s, uint32_t n,
+                                      uint32_t p, uint64_t *answer, size_t answer_len);
+uint32_t sgroup_re_register_name_indexed(uint64_t *table, size_t table_len, uint64_t *index, size_t index_len, uint32_t caller, uint32_t s,
+                                         uint32_t n, uint32_t p, uint64_t *answer, size_t answer_len);
+uint32_t sgroup_unregister_name_indexed(uint64_t *table, size_t table_len, uint64_t *index, size_t index_len, uint32_t caller, uint32_t s, uint32_t n,
+                                        uint64_t *answer, size_t answer_len);
+uint32_t sgroup_registered_names_indexed(const uint64_t *table, size_t table_len, const uint64_t *index, size_t index_len, uint32_t caller,
+                                         uint32_t s, uint64_t *out, size_t out_len, uint64_t *answer, size_t answer_len);
+uint32_t sgroup_whereis_name_indexed(const uint64_t *table, size_t table_len, const uint64_t *index, size_t index_len, uint32_t caller, uint32_t s,
+                                     uint32_t n, uint64_t *answer, size_t answer_len);
+uint32_t sgroup_whereis_name_at_indexed(uint64_t *table, size_t table_len, uint64_t *index, size_t index_len, uint32_t caller, uint32_t node,
+                                        uint32_t s, uint32_t n, uint64_t *answer, size_t answer_len);
+uint32_t sgroup_send_indexed(uint64_t *table, size_t table_len, uint64_t *index, size_t index_len, uint32_t caller, uint32_t p, uint64_t *answer,
+                             size_t answer_len);
+uint32_t sgroup_send_name_indexed(uint64_t *table, size_t table_len, uint64_t *index, size_t index_len, uint32_t caller, uint32_t s, uint32_t n,
+                                  uint64_t *answer, size_t answer_len);
+uint32_t sgroup_send_at_indexed(uint64_t *table, size_t table_len, uint64_t *index, size_t index_len, uint32_t caller, uint32_t node, uint32_t s,
+                                uint32_t n, uint64_t *answer, size_t answer_len);
+uint32_t sgroup_new_s_group_indexed(uint64_t *table, size_t table_len, uint64_t *index, size_t index_len, uint32_t caller, uint32_t s, uint64_t set,
+                                    uint64_t *answer, size_t answer_len);
+uint32_t sgroup_add_nodes_indexed(uint64_t *table, size_t table_len, uint64_t *index, size_t index_len, uint32_t caller, uint32_t s, uint64_t set,
+                                  uint64_t *answer, size_t answer_len);
+uint32_t sgroup_remove_nodes_indexed(uint64_t *table, size_t table_len, uint64_t *index, size_t index_len, uint32_t caller, uint32_t s, uint64_t set,
+                                     uint64_t *answer, size_t answer_len);
+uint32_t sgroup_delete_s_group_indexed(uint64_t *table, size_t table_len, uint64_t *index, size_t index_len, uint32_t caller, uint32_t s,
+                                       uint64_t *answer, size_t answer_len);
+uint32_t sgroup_own_nodes_indexed(const uint64_t *table, size_t table_len, const uint64_t *index, size_t index_len, uint32_t caller, uint64_t *answer,
+                                  size_t answer_len);
+uint32_t sgroup_own_s_groups_indexed(const uint64_t *table, size_t table_len, const uint64_t *index, size_t index_len, uint32_t caller, uint64_t *out,
+                                     size_t out_len, uint64_t *answer, size_t answer_len);
 
 #ifdef __cplusplus
 }

@@ -9,7 +9,7 @@ enum { HARBOUR = 5, HILL = 6, GLYPH_SERVER = 70, FONT_SERVER = 71, PIDS_PER_HOST
 
 static uint64_t table[SGROUP_TABLE_WORDS];
 static uint64_t answer[SGROUP_ANSWER_WORDS];
-static uint64_t list[64];
+static uint64_t list[SGROUP_LIST_WORDS];
 
 /* One line: what was asked, the value, the reason. */
 static void say(const char *asked) {
@@ -51,13 +51,13 @@ int main(void) {
     say("printer 0 sends to the font server");
     if (reason == SGROUP_HOST_OUTSIDE)
         printf("it runs on node %" PRIu64 ", outside the store\n", answer[1] / PIDS_PER_HOST);
-    sgroup_registered_names(table, SGROUP_TABLE_WORDS, 0, HARBOUR, list, 64, answer, SGROUP_ANSWER_WORDS);
+    sgroup_registered_names(table, SGROUP_TABLE_WORDS, 0, HARBOUR, list, SGROUP_LIST_WORDS, answer, SGROUP_ANSWER_WORDS);
     say("names in the harbour store");
     sgroup_registered_names(table, SGROUP_TABLE_WORDS, 0, HARBOUR, list, 0, answer, SGROUP_ANSWER_WORDS);
     say("the same without room");
     sgroup_own_nodes(table, SGROUP_TABLE_WORDS, 3, answer, SGROUP_ANSWER_WORDS);
     say("node 3's nodes");
-    sgroup_own_s_groups(table, SGROUP_TABLE_WORDS, 3, list, 64, answer, SGROUP_ANSWER_WORDS);
+    sgroup_own_s_groups(table, SGROUP_TABLE_WORDS, 3, list, SGROUP_LIST_WORDS, answer, SGROUP_ANSWER_WORDS);
     say("node 3's s_groups");
     if (sgroup_own_nodes(table, SGROUP_TABLE_WORDS, 3, answer, SGROUP_ANSWER_WORDS - 1) == SGROUP_NO_ROOM)
         puts("a run of three words takes no answer");

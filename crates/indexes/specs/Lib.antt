@@ -7,3 +7,4 @@ pub mod Flat
 pub mod WalkLaws
 pub mod WalkWords
 pub mod StepRows
+pub mod TestLaws

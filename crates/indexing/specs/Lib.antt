@@ -1,3 +1,4 @@
 pub mod Arms
 pub mod Found
+pub mod Kept
 pub mod PidFound

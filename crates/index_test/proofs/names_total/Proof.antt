@@ -14,16 +14,12 @@ use Rattle.index_test.proofs.names_total.Tie as tie
 
 abbrev Inv-loop : tie.InvT-loop
 Inv-loop t groups total₀ g₀ total g =
-    (g ≤ groups) × (total + length (walk (drop g (state-of names-per-group t .groups))) ≡ length (walk (state-of names-per-group t .groups)))
+    (g ≤ groups) × ((groups ≤ group-limit) × (total + length (walk (drop g (state-of names-per-group t .groups))) ≡ length (walk (state-of names-per-group t .groups))))
 
 abbrev μ-loop : tie.MeasureT-loop
 μ-loop t groups total₀ g₀ total g = groups - g
 
--- the s_groups are few
-few : (c : tie.In-loop Inv-loop μ-loop) → count-of (c .before .before .before .args .t .now) ≤ group-limit
-few c = let s = c .before .before .before in counted-few names-per-group (s .args .t .now) (s .pre .1)
-
--- and so are their names
+-- all names are few
 all-fit : (c : tie.In-loop Inv-loop μ-loop) → length (walk (state-of names-per-group (c .before .before .before .args .t .now) .groups)) ≤ group-limit * names-per-group
 all-fit c = let s = c .before .before .before in walk-fits names-per-group (s .args .t .now) (s .pre .1) 0
 
@@ -40,22 +36,22 @@ shared-slice-read-groups : tie.Need-shared-slice-read-groups Inv-loop μ-loop
 shared-slice-read-groups c = search needs
 
 loop-holds : tie.Need-loop-holds Inv-loop μ-loop
-loop-holds c = search needs
+loop-holds c = let s = c .before in (omega arith, (counted-few names-per-group (s .args .t .now) (s .pre .1), omega arith))
 
 add-total : tie.Need-add-total Inv-loop μ-loop
-add-total c = omega (arith, few c)
+add-total c = search needs
 
 mul-total : tie.Need-mul-total Inv-loop μ-loop
-mul-total c = omega (arith, few c)
+mul-total c = search needs
 
 shared-slice-read-total : tie.Need-shared-slice-read-total Inv-loop μ-loop
-shared-slice-read-total c = omega (arith, few (c .before))
+shared-slice-read-total c = search needs
 
 add-total-2 : tie.Need-add-total-2 Inv-loop μ-loop
 add-total-2 c = omega (arith, all-fit (c .before), next (c .before))
 
 add-g : tie.Need-add-g Inv-loop μ-loop
-add-g c = omega (arith, few (c .before))
+add-g c = search needs
 
 loop-less : tie.Need-loop-less Inv-loop μ-loop
 loop-less c = search needs

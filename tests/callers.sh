@@ -5,7 +5,7 @@ set -uo pipefail
 cd "$(dirname "${BASH_SOURCE[0]}")/.."
 
 # The crates that others call. The crates below them are steps, which may ask for a sound table, a length or an index.
-callers='sgroup indexed table opening launch launch_report refusal_head launch_refusals script sgroup_c'
+callers='sgroup indexed table opening launch launch_report refusal_head launch_refusals script who_report sgroup_c'
 
 # Reads the public functions of files, from `pub fn` to the line that begins the body, and says what is amiss. Without what stands in parentheses, an equation is
 # two sides with one `≡` between them, and no other relation or connective.

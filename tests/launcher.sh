@@ -1,6 +1,6 @@
 #!/usr/bin/env bash
 # The launcher proves and builds the program before it runs it, tried with a kit and a program that only pretend: its progress, one launch at a time, what
-# it makes of a kit that refuses, fails or is another one, that each of the two programs is proved for itself, and that nothing is left of it when it is ended.
+# it makes of a kit that refuses, fails or is another one, that each of the three programs is proved for itself, and that nothing is left of it when it is ended.
 set -uo pipefail
 cd "$(dirname "${BASH_SOURCE[0]}")/.."
 bad=0
@@ -9,7 +9,7 @@ trap 'rm -rf "$room"' EXIT
 root=$room/root
 mkdir -p "$root/crates" "$room/bin" "$room/temporary"
 cp icespruce VERSION kit.txt "$root"
-printf '# a comment: with a colon\nlow:\nside: low\nsgroup_run: low io\nsgroup_launch: low side os\n' >"$root/crates.txt"
+printf '# a comment: with a colon\nlow:\nside: low\nsgroup_run: low io\nsgroup_who: low io os\nsgroup_launch: low side os\n' >"$root/crates.txt"
 
 # A kit that takes `pause` seconds, then ends with `status`; where that is 0 it makes a program that prints its input, or `answer` where it has arguments, or
 # waits where `pause` is not 0.
@@ -71,7 +71,23 @@ holds "a second launch says something" test ! -s "$room/said"
 touch "$root/crates/low"
 launches 0 'the last time took [0-9]* seconds'
 
-# The other program, whose first line says whether a launch is refused.
+# The programs whose first line says whether what they are asked is refused: who goes by a process, of which the argument is looked at before it is proved,
+who=(who 67108865 "$room/script")
+printf 's_group 5 name 70\n' >"$room/answer"
+launches 2 'is no pid' who 67108865x "$room/script"
+holds "something is proved for no pid" test ! -e "$root/target/icespruce.sgroup_who.proved"
+launches 0 'crate 2 of 2: sgroup_who proved' "${who[@]}"
+holds "the names are not printed" cmp "$room/answer" "$room/printed"
+launch who 67108865 - <"$room/script"
+holds "a second question fails" test $? -eq 0
+holds "a second question says something" test ! -s "$room/said"
+printf 'error 7\nsomething\n' >"$room/answer"
+launch "${who[@]}"
+holds "the status of a question that is refused is not 1" test $? -eq 1
+holds "a question that is refused says something" test ! -s "$room/said"
+holds "the refusal of a question is not printed" cmp "$room/answer" "$room/printed"
+
+# and launches.
 table=(launch "$room/script" "$room/script" 1 0 0)
 echo 'ok 0' >"$room/answer"
 launches 0 'crate 2 of 3: sgroup_launch proved' "${table[@]}"
@@ -85,6 +101,7 @@ holds "a launch that is refused says something" test ! -s "$room/said"
 holds "the refusal is not printed" cmp "$room/answer" "$room/printed"
 kit 1 0
 launches 2 'not proved' "${table[@]}"
+launches 1 'not proved' "${who[@]}"
 kit 2 0
 launches 3 'the Rattle kit failed (status 2)' "${table[@]}"
 

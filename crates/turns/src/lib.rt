@@ -9,7 +9,7 @@ use commands::Command;
 use line::Request;
 
 // How many words a list has, by its answer's value.
-fn count_of(value: Value) -> usize
+pub fn count_of(value: Value) -> usize
     ensures { λ r. ⌜ r ≡ count-of value ⌝ }
 {
     match value {

@@ -61,7 +61,7 @@ sub-many : tie.Need-sub-many
 sub-many c = omega (arith, found c)
 
 mul-words : tie.Need-mul-words
-mul-words c = omega (arith, found c, fit (c .before .before))
+mul-words c = omega (arith, found c)
 
 refused-requires-2 : tie.Need-refused-requires-2
 refused-requires-2 c κs = search needs
@@ -74,8 +74,7 @@ returns-2 c =
 
 list-rows-requires : tie.Need-list-rows-requires
 list-rows-requires c κs =
-    let k = c .before .before in
-    (omega (arith, found k, fit (k .before .before)), omega (arith, c .before .if2 .left))
+    (omega (arith, found (c .before .before)), omega (arith, c .before .if2 .left))
 
 done-requires : tie.Need-done-requires
 done-requires c κs = search needs

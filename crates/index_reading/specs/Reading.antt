@@ -3,7 +3,6 @@ use mathlib.Core.Path.{_≡_, sym, ap, _∙_, subst}
 use mathlib.Core.Bool.{true, false}
 use mathlib.Core.List.{List, _++_, append-assoc}
 use Prim.Native.Nat.{ℕ, _+_, _-_, _*_, _≤_, _<_}
-use native.Mathlib.Nat.{add-zero}
 use native.Mathlib.Omega.{arith}
 use lib.Dec.{leb, eqb}
 use lib.ListN.{length, take, drop, replicate, length-append, length-drop, take-append-drop}
@@ -84,22 +83,22 @@ module _ {t x : List ℕ} (h : Paired t x) where
       let xs = sorted (walk (state-of names-per-group t .groups)) in
       omega (arith, ap length (f .words), length-append (flat xs) (replicate (length x - length (flat xs)) 0), length-flat xs, f .many)
 
-  pub ranked : (count : ℕ) → count ≡ length (walk (state-of names-per-group t .groups)) → (p from to : ℕ)
-      → ((ys : List Row) → Front count ys x → from ≡ rank (p * half-word) ys) → ((ys : List Row) → Front count ys x → to ≡ rank (key-of p group-names) ys)
-      → Ranked t x p count from to
+  pub ranked : (count : ℕ) → count ≡ length (walk (state-of names-per-group t .groups)) → (p from to low high : ℕ)
+      → ((ys : List Row) → Front count ys x → from ≡ rank low ys) → ((ys : List Row) → Front count ys x → to ≡ rank high ys)
+      → low ≡ key-of p 0 → high ≡ key-of p group-names → Ranked t x p count from to
   unfolding names-of
-  ranked count e p from to rf rt =
+  ranked count e p from to low high rf rt el eh =
       let xs = sorted (walk (state-of names-per-group t .groups)) in
       let f : Front count xs x = in-front (index-fills h count e) in
-      let ef : from ≡ rank (key-of p 0) xs = rw add-zero (rf xs f) in
-      let et = rt xs f in
+      let ef : from ≡ rank (key-of p 0) xs = rw el at (rf xs f) in
+      let et : to ≡ rank (key-of p group-names) xs = rw eh at (rt xs f) in
       let rise : from ≤ to = omega (arith, pid-ranks p xs) in
-      let high : to ≤ count = omega (arith, rank-le (key-of p group-names) xs, f .many) in
+      let last : to ≤ count = omega (arith, rank-le (key-of p group-names) xs, f .many) in
       let own : keep (λ r. eqb (pid-of r) p) xs ≡ take (to - from) (drop from xs) =
       rw (ef, et) (keep-pid p 0 xs (f .ascending) (walk-small-sorted (test-regular names-per-group t (h .ok) .0))) in
       record {
         rise = rise;
-        high = high;
+        high = last;
         fits = rows-fit count e;
         names = ap named (rows-between f from (to - from) (omega arith) ∙ sym own);
         words =

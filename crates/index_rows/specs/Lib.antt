@@ -1,3 +1,4 @@
 pub mod Filled
 pub mod Search
 pub mod Moving
+pub mod Sweeping

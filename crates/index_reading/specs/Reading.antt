@@ -1,9 +1,8 @@
 -- Reading by pid in the index of a sound table: where the rows of the pid stand, and which answer is given. Assumes nothing.
-use mathlib.Core.Path.{_≡_, refl, sym, ap, _∙_, subst}
+use mathlib.Core.Path.{_≡_, sym, ap, _∙_, subst}
 use mathlib.Core.Bool.{true, false}
 use mathlib.Core.List.{List, _++_, append-assoc}
 use Prim.Native.Nat.{ℕ, _+_, _-_, _*_, _≤_, _<_}
-use native.Mathlib.Nat.{add-zero}
 use native.Mathlib.Omega.{arith}
 use lib.Dec.{leb, eqb}
 use lib.ListN.{length, take, drop, replicate, length-append, length-drop, take-append-drop}
@@ -46,18 +45,28 @@ rows-between {count} {xs} {run} f from many h =
     ∙ rw (flat-drop from xs, ← append-assoc (flat (take many ys)) (flat (drop many ys)) z, ← flat-append (take many ys) (drop many ys), take-append-drop many ys) in
     rw is (subst (λ (n : ℕ). read-rows n (flat (take many ys) ++ (flat (drop many ys) ++ z)) ≡ take many ys) long (read-rows-flat (take many ys) (flat (drop many ys) ++ z)))
 
--- what two ranks say in an index x of count rows: the names of the pid p are read from the one up to the other
-pub record Ranked (t x : List ℕ) (p count from to : ℕ) : Type 0 where
-  pub rise : from ≤ to
-  pub high : to ≤ count
-  pub names : named (read-rows (to - from) (drop (row-words * from) x)) ≡ names-in p (state-of names-per-group t)
-  pub words : length (names-in p (state-of names-per-group t)) ≡ row-words * (to - from)
-
 -- x is the index of the sound table t
 pub record Paired (t x : List ℕ) : Type 0 where
   pub long : length t ≡ table-words names-per-group
   pub ok : sound names-per-group t ≡ true
   pub is : x ≡ index-of-table names-per-group t
+
+-- it holds the rows of the table's names, ascending
+pub index-fills : {t x : List ℕ} → Paired t x → (count : ℕ) → count ≡ length (walk (state-of names-per-group t .groups))
+    → Fills count (sorted (walk (state-of names-per-group t .groups))) x
+unfolding index-of
+index-fills {t} {x} h count e =
+    let ws = walk (state-of names-per-group t .groups) in
+    fills (index-words names-per-group) count (sorted ws) x (length-sorted ws ∙ sym e) (omega (arith, walk-fits names-per-group t (h .ok) 0))
+    (sorted-ascending ws (walk-distinct-from names-per-group t (h .ok) 0)) (h .is)
+
+-- what two ranks say where x has count rows: the names of the pid p are read from the one up to the other
+pub record Ranked (t x : List ℕ) (p count from to : ℕ) : Type 0 where
+  pub rise : from ≤ to
+  pub high : to ≤ count
+  pub fits : row-words * count ≤ length x
+  pub names : named (read-rows (to - from) (drop (row-words * from) x)) ≡ names-in p (state-of names-per-group t)
+  pub words : length (names-in p (state-of names-per-group t)) ≡ row-words * (to - from)
 
 module _ {t x : List ℕ} (h : Paired t x) where
   size : size-of t ≡ state-of names-per-group t .size
@@ -68,38 +77,34 @@ module _ {t x : List ℕ} (h : Paired t x) where
 
   -- ---- the rows
 
-  module _ (count : ℕ) (e : count ≡ length (walk (state-of names-per-group t .groups))) where
-    abbrev xs : List Row
-    xs = sorted (walk (state-of names-per-group t .groups))
+  pub rows-fit : (count : ℕ) → count ≡ length (walk (state-of names-per-group t .groups)) → row-words * count ≤ length x
+  rows-fit count e =
+      let f = index-fills h count e in
+      let xs = sorted (walk (state-of names-per-group t .groups)) in
+      omega (arith, ap length (f .words), length-append (flat xs) (replicate (length x - length (flat xs)) 0), length-flat xs, f .many)
 
-    filled : Fills count xs x
-    unfolding index-of
-    filled =
-        fills (index-words names-per-group) count xs x (length-sorted _ ∙ sym e) (omega (arith, walk-fits names-per-group t (h .ok) 0))
-        (sorted-ascending _ (walk-distinct-from names-per-group t (h .ok) 0)) (h .is)
-
-    pub rows-fit : row-words * count ≤ length x
-    rows-fit = omega (arith, ap length (filled .words), length-append (flat xs) (replicate (length x - length (flat xs)) 0), length-flat xs, filled .many)
-
-    pub ranked : (p from to : ℕ) → ((ys : List Row) → Front count ys x → from ≡ rank (p * half-word) ys)
-        → ((ys : List Row) → Front count ys x → to ≡ rank (key-of p group-names) ys) → Ranked t x p count from to
-    unfolding names-of
-    ranked p from to rf rt =
-        let f : Front count xs x = in-front filled in
-        let ef : from ≡ rank (key-of p 0) xs = rw add-zero (rf xs f) in
-        let et = rt xs f in
-        let rise : from ≤ to = omega (arith, pid-ranks p xs) in
-        let high : to ≤ count = omega (arith, rank-le (key-of p group-names) xs, f .many) in
-        let own : keep (λ r. eqb (pid-of r) p) xs ≡ take (to - from) (drop from xs) =
-        rw (ef, et) (keep-pid p 0 xs (f .ascending) (walk-small-sorted (test-regular names-per-group t (h .ok) .0))) in
-        record {
-          rise = rise;
-          high = high;
-          names = ap named (rows-between f from (to - from) (omega arith) ∙ sym own);
-          words =
-              rw own
-              (omega (arith, length-named (take (to - from) (drop from xs)), length-take-le (to - from) (drop from xs) (omega (arith, length-drop from xs, f .many))));
-        }
+  pub ranked : (count : ℕ) → count ≡ length (walk (state-of names-per-group t .groups)) → (p from to low high : ℕ)
+      → ((ys : List Row) → Front count ys x → from ≡ rank low ys) → ((ys : List Row) → Front count ys x → to ≡ rank high ys)
+      → low ≡ key-of p 0 → high ≡ key-of p group-names → Ranked t x p count from to
+  unfolding names-of
+  ranked count e p from to low high rf rt el eh =
+      let xs = sorted (walk (state-of names-per-group t .groups)) in
+      let f : Front count xs x = in-front (index-fills h count e) in
+      let ef : from ≡ rank (key-of p 0) xs = rw el at (rf xs f) in
+      let et : to ≡ rank (key-of p group-names) xs = rw eh at (rt xs f) in
+      let rise : from ≤ to = omega (arith, pid-ranks p xs) in
+      let last : to ≤ count = omega (arith, rank-le (key-of p group-names) xs, f .many) in
+      let own : keep (λ r. eqb (pid-of r) p) xs ≡ take (to - from) (drop from xs) =
+      rw (ef, et) (keep-pid p 0 xs (f .ascending) (walk-small-sorted (test-regular names-per-group t (h .ok) .0))) in
+      record {
+        rise = rise;
+        high = last;
+        fits = rows-fit count e;
+        names = ap named (rows-between f from (to - from) (omega arith) ∙ sym own);
+        words =
+            rw own
+            (omega (arith, length-named (take (to - from) (drop from xs)), length-take-le (to - from) (drop from xs) (omega (arith, length-drop from xs, f .many))));
+      }
 
   -- ---- the answer
 

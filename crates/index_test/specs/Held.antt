@@ -54,7 +54,7 @@ no-word w zero h = refl
 no-word w (suc cap) h = rw (ne-eqb 0 w (λ q. omega arith)) (no-word w cap h)
 
 -- an s_group has the row where that word is among its words
-pub rows-words : (cap b : ℕ) (r : Row) (es : List Entry) → Ascending b es → length es ≤ cap → pid-of r < half-word → 0 < r .name
+rows-words : (cap b : ℕ) (r : Row) (es : List Entry) → Ascending b es → length es ≤ cap → pid-of r < half-word → 0 < r .name
     → holds r (rows (group-of r) es) ≡ holds-word (word-for r) (words cap es)
 unfolding holds rows holds-word words Ascending
 rows-words cap b r [] a h l n = sym (no-word (word-for r) cap (omega arith))
@@ -67,11 +67,8 @@ module _ (t : List ℕ) (ok : sound names-per-group t ≡ true) (g : ℕ) (h : g
   counted : g < length (here t .groups)
   counted = omega (arith, groups-counted names-per-group t ok)
 
-  one : Regular-group names-per-group (here t .size) (group-at (here t .groups) g)
-  one = every-iff _ (here t .groups) .0 (regular t ok .each) g counted
-
   pub names-sound : Sound names-per-group (here t .size) (group-at (here t .groups) g .names)
-  names-sound = one .names-sound
+  names-sound = every-iff (Regular-group names-per-group (here t .size)) (here t .groups) .0 (regular t ok .each) g counted .names-sound
 
   -- its words, from b up to e
   pub own-words : (b e : ℕ) → b ≡ own-at names-per-group g → e ≡ b + names-per-group

@@ -81,7 +81,8 @@ laid-iff : (xs : List Row) (index : List ℕ) → row-words * length xs ≤ leng
     → (index ≡ laid (length index) xs) ↔ ((all-zero (drop (row-words * length xs) index) ≡ true) × (read-rows (length xs) index ≡ xs))
 laid-iff xs index fits = (
   λ e. (
-    tail-iff (row-words * length xs) index .1 (λ i l m. ap (λ (ws : List ℕ). getD ws i 0) e ∙ getD-pad (length index) (flat xs) i ∙ List·getD-eq-default (flat xs) 0 (omega (arith, length-flat xs))),
+    tail-iff (row-words * length xs) index .1 (λ i l m.
+        ap (λ (ws : List ℕ). getD ws i 0) e ∙ getD-pad (length index) (flat xs) i ∙ List·getD-eq-default (flat xs) 0 (omega (arith, length-flat xs))),
     ap (read-rows (length xs)) e ∙ read-rows-flat xs _,
   ),
   λ h.
@@ -89,7 +90,8 @@ laid-iff xs index fits = (
       ext-getD 0 index (laid (length index) xs) (sym (length-pad (length index) (flat xs) (omega (arith, length-flat xs)))) (λ i m.
       ⊎-elim
       (λ (l : i < row-words * length xs). sym (getD-take (row-words * length xs) index i 0 l) ∙ ap (λ (ws : List ℕ). getD ws i 0) front)
-      (λ (l : row-words * length xs ≤ i). tail-iff (row-words * length xs) index .0 (h .0) i l m ∙ sym (List·getD-eq-default (flat xs) 0 (omega (arith, length-flat xs))))
+      (λ (l : row-words * length xs ≤ i).
+      tail-iff (row-words * length xs) index .0 (h .0) i l m ∙ sym (List·getD-eq-default (flat xs) 0 (omega (arith, length-flat xs))))
       (by-lt i (row-words * length xs)) ∙ sym (getD-pad (length index) (flat xs) i)),
 )
 
@@ -113,4 +115,5 @@ pub index-verdict : (t index : List ℕ) (n : ℕ) → sound names-per-group t �
     → all-zero (drop (row-words * n) index) && all-right 0 (read-rows n index) (walk (here t .groups)) ≡ same index (index-of-table names-per-group t)
 unfolding index-of
 index-verdict t index n ok long many =
-    rw many (rw long at (verdict (walk (here t .groups)) index (walk-distinct names-per-group (here t) (regular t ok)) (omega (arith, walk-fits names-per-group t ok 0))))
+    let distinct = walk-distinct names-per-group (here t) (regular t ok) in
+    rw many (rw long at (verdict (walk (here t .groups)) index distinct (omega (arith, walk-fits names-per-group t ok 0))))

@@ -124,7 +124,10 @@ pub words-upward : (cap N : ℕ) (es : List Entry) → Sound cap N es → Upward
 words-upward cap N es s j k h l =
     let c = climbing-iff 0 es .0 (s .names) in
     let fits : k < cap =
-    ⊎-elim (λ (t : k < cap). t) (λ (t : cap ≤ k). absurd (omega (arith, List·getD-eq-default (words cap es) 0 {n = k} (omega (arith, length-words cap es))))) (by-lt k cap) in
+    ⊎-elim
+    (λ (t : k < cap). t)
+    (λ (t : cap ≤ k). absurd (omega (arith, List·getD-eq-default (words cap es) 0 {n = k} (omega (arith, length-words cap es)))))
+    (by-lt k cap) in
     let used : k < length es =
     ⊎-elim
     (λ (t : k < length es). t)

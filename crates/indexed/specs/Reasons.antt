@@ -1,5 +1,5 @@
 -- Which reason a call with an index has before its step, and what it gives then. Assumes nothing.
-use mathlib.Core.Path.{_≡_, refl, sym, ap, _∙_}
+use mathlib.Core.Path.{_≡_, refl, sym, ap, _∙_, subst}
 use mathlib.Core.Bool.{Bool, true, false, not, cond, true≢false}
 use mathlib.Core.List.{List, []}
 use Prim.Native.Nat.{ℕ}
@@ -15,13 +15,15 @@ use Rattle.semantics.specs.TestLaws.{same-iff}
 use Rattle.semantics.specs.Truth.{unless}
 use Rattle.semantics.specs.Agree.{test-regular}
 use Rattle.semantics.specs.FirstReason.{first}
-use Rattle.semantics.specs.Call.{call}
+use Rattle.semantics.specs.Call.{Call, call, listed-over}
 use Rattle.inputs.specs.Judge.{is-done}
-use Rattle.answers.specs.declared.Value.the-variants.{Ok}
+use Rattle.answers.specs.declared.Answer.{Answer}
+use Rattle.answers.specs.declared.Value.the-variants.{Ok, Error}
 use Rattle.answers.specs.declared.Reason.{Reason}
 use Rattle.answers.specs.declared.Reason.the-variants.{Done, TableLength, Unsound, IndexWrong}
 use Rattle.indexes.specs.Index.{index-of-table}
-use Rattle.indexes.specs.IndexCalls.{left, beside, no-table, no-index, indexed, written}
+use Rattle.indexing.specs.Kept.{index-long}
+use Rattle.indexes.specs.IndexCalls.{Indexed, left, beside, no-table, no-index, indexed, written, read}
 
 -- ---- the first of some tests, by what they say
 
@@ -41,6 +43,13 @@ three-refuses true b d h = refl
 three-refuses false true d h = refl
 three-refuses false false true h = refl
 three-refuses false false false h = absurd (true≢false h)
+
+-- a reason of these stands before any other
+three-first : (a b d : Bool) (q : Reason) → is-done (three a b d) ≡ false → cond a TableLength (cond b Unsound (cond d IndexWrong q)) ≡ three a b d
+three-first true b d q h = refl
+three-first false true d q h = refl
+three-first false false true q h = refl
+three-first false false false q h = absurd (true≢false h)
 
 -- no test holds where none is given
 three-done : (a b d : Bool) → three a b d ≡ Done → (b ≡ false) × (d ≡ false)
@@ -80,6 +89,15 @@ module _ (t : List ℕ) where
       let h : sound names-per-group t ≡ true = holds (sound names-per-group t) (two-done (not (eqb (length t) (table-words names-per-group))) (not (sound names-per-group t)) e) in
       (test-regular names-per-group t h .2, h)
 
+-- ---- what is to be shown of a call: its answer, and what has become of the table, the index and the run for a list
+
+abbrev pub Gives : Indexed → List ℕ → Answer → List ℕ → List ℕ → List ℕ → Type 0
+Gives d out a t x o = (a ≡ d .given .answer) × ((t ≡ d .given .table) × ((x ≡ d .index) × (o ≡ listed-over (d .given .list) out)))
+
+-- the answer and the list alone
+abbrev pub Tells : Call → List ℕ → Answer → List ℕ → Type 0
+Tells d out a o = (a ≡ d .answer) × (o ≡ listed-over (d .list) out)
+
 -- ---- the table and its index
 
 module _ (t x : List ℕ) where
@@ -99,8 +117,10 @@ module _ (t x : List ℕ) where
       rw (eq-eqb (length t) (table-words names-per-group) (q .0), q .1, h)
 
   -- a run of another length is no index
-  pub index-short : (length x ≡ length (index-of-table names-per-group t) → ⊥) → same x (index-of-table names-per-group t) ≡ false
-  index-short n = unless (same x (index-of-table names-per-group t)) (λ h. n (ap length (same-iff x (index-of-table names-per-group t) .0 h)))
+  pub index-short : first (no-table t) ≡ Done → (length x ≡ index-words names-per-group → ⊥) → same x (index-of-table names-per-group t) ≡ false
+  index-short e n =
+      unless (same x (index-of-table names-per-group t)) (λ h.
+      n (index-long t x (table-sound t e .1) (same-iff x (index-of-table names-per-group t) .0 h)))
 
   -- runs without a reason are a sound table and its index
   pub index-there : {r : Reason} → r ≡ first (no-index t x) → r ≡ Done
@@ -113,16 +133,45 @@ module _ (t x : List ℕ) where
   -- ---- what a call gives
 
   module _ (room i : ℕ) (c : Command) where
-    pub indexed-refused : {r : Reason} → r ≡ first (no-index t x) → is-done r ≡ false → indexed room i c t x ≡ left r t x
+    indexed-refused : {r : Reason} → r ≡ first (no-index t x) → is-done r ≡ false → indexed room i c t x ≡ left r t x
     unfolding indexed
     indexed-refused {r} e h =
         let k : refuses (first (no-index t x)) ≡ true =
         three-refuses (not (eqb (length t) (table-words names-per-group))) (not (sound names-per-group t)) (not (same x (index-of-table names-per-group t))) (rw e at h) in
         rw (e, k)
 
-    pub indexed-done : {r : Reason} → r ≡ first (no-index t x) → r ≡ Done → indexed room i c t x ≡ beside (call room i c t)
+    indexed-done : {r : Reason} → r ≡ first (no-index t x) → r ≡ Done → indexed room i c t x ≡ beside (call room i c t)
     unfolding indexed
     indexed-done e d = rw (sym e ∙ d)
+
+  module _ (i : ℕ) (c : Command) (out : List ℕ) {r : Reason} (e : r ≡ first (no-index t x)) where
+    -- refused, and every word stays
+    pub gives-refused : {a : Answer} → a ≡ answer-of Error r → is-done r ≡ false → Gives (indexed (length out) i c t x) out a t x out
+    gives-refused {a} q h = subst (λ (d : Indexed). Gives d out a t x out) (sym (indexed-refused (length out) i c e h)) (q, (refl, (refl, refl)))
+
+    -- what the call without an index gives, beside the index of the table that is left
+    pub gives-done : r ≡ Done → {a : Answer} {u y o : List ℕ} → Gives (beside (call (length out) i c t)) out a u y o → Gives (indexed (length out) i c t x) out a u y o
+    gives-done d {a} {u} {y} {o} g = subst (λ (f : Indexed). Gives f out a u y o) (sym (indexed-done (length out) i c e d)) g
+
+  -- ---- a command that only reads: its answer and its list
+
+  module _ (i : ℕ) (c : Command) (out : List ℕ) {r : Reason} (e : r ≡ first (no-index t x)) where
+    pub tells-refused : {a : Answer} → a ≡ answer-of Error r → is-done r ≡ false → Tells (indexed (length out) i c t x .given) out a out
+    tells-refused q h = let g = gives-refused i c out e q h in (g .0, g .1 .1 .1)
+
+    pub tells-done : r ≡ Done → {a : Answer} {o : List ℕ} → Tells (call (length out) i c t) out a o → Tells (indexed (length out) i c t x .given) out a o
+    tells-done d {a} {o} g = subst (λ (f : Indexed). Tells (f .given) out a o) (sym (indexed-done (length out) i c e d)) g
+
+  -- ---- reading by pid
+
+  pub read-refused : (p : ℕ) (out : List ℕ) {r : Reason} → r ≡ first (no-index t x) → {a : Answer} → a ≡ answer-of Error r → is-done r ≡ false → Tells (read (length out) p t x) out a out
+  unfolding read
+  read-refused p out {r} e {a} q h =
+      let f : is-done (first (no-index t x)) ≡ false = rw e at h in
+      let long = not (eqb (length t) (table-words names-per-group)) in
+      let bad = not (sound names-per-group t) in
+      let wrong = not (same x (index-of-table names-per-group t)) in
+      rw (three-first long bad wrong _ f, three-refuses long bad wrong f, ← e) (q, refl)
 
   -- ---- writing
 

@@ -50,7 +50,8 @@ unfolding holds rows Namespace.Ascending
 named-rows r s b [] a h = absurd (false≢true h)
 named-rows r s b (e ∷ es) a h =
     or-cases (eqb (key-of (e .pid) s) (r .key) && eqb (e .name) (r .name)) (holds r (rows s es)) h
-    (λ t. let q : e .name ≡ r .name = eqb-true (e .name) (r .name) (and-eq-true-iff (eqb (key-of (e .pid) s) (r .key)) (eqb (e .name) (r .name)) .0 t .1) in omega (arith, a .0, a .1))
+    (λ t.
+    let q : e .name ≡ r .name = eqb-true (e .name) (r .name) (and-eq-true-iff (eqb (key-of (e .pid) s) (r .key)) (eqb (e .name) (r .name)) .0 t .1) in omega (arith, a .0, a .1))
     (λ t. named-rows r s (e .name) es (a .3) t)
 
 module _ (cap N : ℕ) where
@@ -60,7 +61,8 @@ module _ (cap N : ℕ) where
   holds-none r [] e f = refl
   holds-none r (g ∷ gs) e f =
       ⊎-elim
-      (λ (t : g .name ≡ group-of r). let q : some g ≡ none = rw (eq-eqb (g .name) (group-of r) t) at f in let z : _≡_ {A = ℕ} 0 1 = cc in absurd (omega arith))
+      (λ (t : g .name ≡ group-of r).
+      let q : some g ≡ none = rw (eq-eqb (g .name) (group-of r) t) at f in let z : _≡_ {A = ℕ} 0 1 = cc in absurd (omega arith))
       (λ (t : g .name ≡ group-of r → ⊥).
       holds-append r (rows (g .name) (g .names)) (walk gs)
       ∙ rw (holds-other r (g .name) (g .names) (e .0 .small) t) (holds-none r gs (e .1) (rw (ne-eqb (g .name) (group-of r) t) at f)))

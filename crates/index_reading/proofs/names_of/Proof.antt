@@ -26,7 +26,8 @@ found : (c : tie.After-rank2) → let e = start (c .before .before) in
 found c =
     let e = start (c .before .before) in
     let n = c .before .before .names-total in
-    ranked (paired e) (n .result) (n .ensures) (e .args .p) (c .before .rank .result) (c .rank2 .result) (c .before .rank .ensures .1) (c .rank2 .ensures .1)
+    ranked (paired e) (n .result) (n .ensures) (e .args .p) (c .before .rank .result) (c .rank2 .result) _ _ (c .before .rank .ensures .1) (c .rank2 .ensures .1) (omega arith)
+    (omega arith)
 
 shared-slice-read-size : tie.Need-shared-slice-read-size
 shared-slice-read-size c = search needs
@@ -40,7 +41,7 @@ refused-requires c κs = search needs
 returns : tie.Need-returns
 returns c =
     let e = c .before .before .before .before .before .before in
-    rw (read-unknown (paired e) (length (e .args .out .now)) (e .args .p) (c .before .if1 .taken)) (c .refused .ensures, refl)
+    rw (read-unknown (paired e) (length (e .args .out .now)) (e .args .p) (omega (arith, c .before .if1 .taken))) (c .refused .ensures, refl)
 
 names-total-requires : tie.Need-names-total-requires
 names-total-requires c κs = search needs
@@ -61,7 +62,7 @@ sub-many : tie.Need-sub-many
 sub-many c = omega (arith, found c)
 
 mul-words : tie.Need-mul-words
-mul-words c = omega (arith, found c, fit (c .before .before))
+mul-words c = omega (arith, found c)
 
 refused-requires-2 : tie.Need-refused-requires-2
 refused-requires-2 c κs = search needs
@@ -70,12 +71,11 @@ returns-2 : tie.Need-returns-2
 returns-2 c =
     let k = c .before .before in
     let e = start (k .before .before) in
-    rw (read-short (paired e) (length (e .args .out .now)) (e .args .p) (k .before .before .before .if1 .left) (omega (arith, found k .words, c .before .if2 .taken))) (c .refused2 .ensures, refl)
+    rw (read-short (paired e) (length (e .args .out .now)) (e .args .p) (omega (arith, k .before .before .before .if1 .left)) (omega (arith, found k .words, c .before .if2 .taken))) (c .refused2 .ensures, refl)
 
 list-rows-requires : tie.Need-list-rows-requires
 list-rows-requires c κs =
-    let k = c .before .before in
-    (omega (arith, found k, fit (k .before .before)), omega (arith, c .before .if2 .left))
+    (omega (arith, found (c .before .before)), omega (arith, c .before .if2 .left))
 
 done-requires : tie.Need-done-requires
 done-requires c κs = search needs
@@ -90,7 +90,7 @@ returns-3 c =
     let e = start (k .before .before) in
     let f = found k in
     rw (
-      read-listed (paired e) (length (e .args .out .now)) (e .args .p) (k .before .before .before .if1 .left) (omega (arith, f .words, l .before .before .if2 .left)),
+      read-listed (paired e) (length (e .args .out .now)) (e .args .p) (omega (arith, k .before .before .before .if1 .left)) (omega (arith, f .words, l .before .before .if2 .left)),
       f .words,
     )
     (c .done .ensures, rw (f .names) at (l .list-rows .ensures))

@@ -5,6 +5,7 @@ pub mod Updates
 pub mod Sorting
 pub mod Flat
 pub mod WalkLaws
+pub mod Room
 pub mod WalkWords
 pub mod StepRows
 pub mod TestLaws

@@ -157,7 +157,7 @@ walk-small-sorted {st = st} w = small-sorted (walk (st .groups)) (walk-small w)
 
 -- ---- what keeps rows
 
-keep-append : (p : Row → Bool) (xs ys : List Row) → keep p (xs ++ ys) ≡ keep p xs ++ keep p ys
+pub keep-append : (p : Row → Bool) (xs ys : List Row) → keep p (xs ++ ys) ≡ keep p xs ++ keep p ys
 unfolding keep
 keep-append p [] ys = refl
 keep-append p (x ∷ xs) ys =

@@ -1,32 +1,32 @@
--- Laws of `told` and `table-of`: the index that is written is the table's, the list that stands in the run, runs of a script, and how much is said.
--- Assumes nothing.
+-- Laws of `told` and `table-of`: the index that is written is the table's, the list in the run, runs of a script, which refusals there are, and how much is
+-- said. Assumes nothing.
 use mathlib.Core.Path.{_≡_, refl, sym, ap, _∙_}
-use mathlib.Core.Logic.{⊎-elim}
+use mathlib.Core.Logic.{_⊎_, inl, inr, ⊎-elim}
 use mathlib.Core.Bool.{Bool, true, false, not, cond, true≢false}
-use mathlib.Core.List.{List, [], _∷_, _++_}
-use Prim.Native.Nat.{ℕ, _+_, _*_, _≤_, _<_}
+use mathlib.Core.List.{List, [], _∷_}
+use Prim.Native.Nat.{ℕ, _≤_, _<_}
 use native.Mathlib.Omega.{arith}
 use lib.Dec.{eqb, leb, ltb}
 use lib.ListN.{length, take, drop, replicate, length-append, length-replicate}
 use lib.Seq.{take-at}
-use borrow.Author.Tests.{eq-eqb, ltb-false}
+use borrow.Author.Tests.{eq-eqb, le-ltb, ltb-false}
 use Rattle.nodes.specs.Bools.{by-test}
 use Rattle.entries.specs.Entries.{host}
-use Rattle.answers.specs.Answers.{refuses, answer-of}
+use Rattle.answers.specs.Answers.{refuses}
 use Rattle.answers.specs.declared.Answer.{Answer}
-use Rattle.answers.specs.declared.Reason.{Reason}
-use Rattle.answers.specs.declared.Value.the-variants.{Listed}
 use Rattle.answers.specs.declared.Reason.the-variants.{Done, TableLength, Unsound, NodeUnknown, RunShort, IndexWrong}
 use Rattle.semantics.specs.Sizes.{names-per-group, table-words, index-words}
 use Rattle.semantics.specs.Agree.{test-regular}
 use Rattle.semantics.specs.Table.{state-of}
 use Rattle.semantics.specs.Test.{same, sound}
+use Rattle.semantics.specs.TestLaws.{same-iff}
 use Rattle.semantics.specs.FirstReason.{_when_, first}
-use Rattle.semantics.specs.Call.{Call, refused, listed-over}
+use Rattle.semantics.specs.Call.{Call, listed-over}
 use Rattle.step.specs.Lists.{count-of}
 use Rattle.indexes.specs.Index.{index-of-table}
 use Rattle.indexes.specs.IndexCalls.{written, names-in, read}
-use Rattle.script.specs.Scripts.{lines-from, left, line-room, Stop, stop, runs}
+use Rattle.indexes.specs.Room.{names-few}
+use Rattle.script.specs.Scripts.{lines-from, left, line-room, stop, runs}
 use Rattle.script.specs.FirstLines.{lines-over}
 use Rattle.script.specs.Whole.{run-told}
 use Rattle.print.specs.Sheets.{sheet}
@@ -119,6 +119,25 @@ ran-out script i t h = rw (lines-over script i h)
 pub after-script : (p : ℕ) (script t : List ℕ) → t ≡ left (replicate (table-words names-per-group) 0) (lines-from script 0) → told p t ≡ report p script
 unfolding table-of
 after-script p script t e = ap (told p) e
+
+-- ---- which refusals there are
+
+-- no list is too long for the room, so that a run of a table's length is refused under 3 and 7 alone
+pub refused-under : (p : ℕ) (t : List ℕ) → length t ≡ table-words names-per-group
+    → (reading p t .answer .reason ≡ Done) ⊎ ((reading p t .answer .reason ≡ Unsound) ⊎ (reading p t .answer .reason ≡ NodeUnknown))
+unfolding read
+refused-under p t n =
+    ⊎-elim
+    (λ (h : sound names-per-group t ≡ true).
+    let few = names-few p names-per-group (state-of names-per-group t) (test-regular names-per-group t h .0) in
+    let own : same (index-of-table names-per-group t) (index-of-table names-per-group t) ≡ true = same-iff (index-of-table names-per-group t) (index-of-table names-per-group t) .1 refl in
+    ⊎-elim
+    (λ (k : leb (state-of names-per-group t .size) (host p) ≡ true). inr (inr (rw (eq-eqb (length t) (table-words names-per-group) n, h, own, k))))
+    (λ (k : leb (state-of names-per-group t .size) (host p) ≡ false).
+    inl (rw (eq-eqb (length t) (table-words names-per-group) n, h, own, k, le-ltb list-room (length (names-in p (state-of names-per-group t))) few)))
+    (by-test (leb (state-of names-per-group t .size) (host p))))
+    (λ (h : sound names-per-group t ≡ false). inr (inl (rw (eq-eqb (length t) (table-words names-per-group) n, h))))
+    (by-test (sound names-per-group t))
 
 -- ---- how much is said
 

@@ -30,7 +30,7 @@ names-told ws = cond (eqb (length ws) 0) (bytes "no name\n") (name-lines ws)
 unfoldable pub host-words : ℕ → List ℕ
 host-words p = bytes "the pid's host, node " ++ (decimal (host p) ++ bytes ", is not on the roster\n")
 
--- why the names of the pid cannot be told: a script leaves a table for which only these two reasons are given
+-- why the names of the pid cannot be told: no other reason refuses a table's words (`refused-under` of sgroup_who)
 unfoldable pub why : ℕ → Reason → List ℕ
 why p r =
     cond (eqb (number r) (number Unsound)) (bytes "the script opens no table\n")

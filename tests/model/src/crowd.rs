@@ -1,6 +1,7 @@
 //! Large random states: up to as many s_groups and names as a table can hold, with
 //! pids that go by several names.
 
+use crate::command::{Command, Request};
 use crate::prng::Prng;
 use crate::state::{
     set_of, NodeSet, SGroup, State, LARGEST_GROUP_NAME, LARGEST_ROSTER, MOST_GROUPS, MOST_NAMES,
@@ -8,25 +9,23 @@ use crate::state::{
 };
 use std::collections::{BTreeMap, BTreeSet};
 
-/// A random state of s_groups that are mostly full of names. Every other node
-/// stands alone.
+/// A random state of many s_groups with many names. One in three has as many of
+/// both as there can be, one in three a name less. Nodes in no s_group stand alone.
 pub fn crowd(prng: &mut Prng) -> State {
     let size = 1 + prng.below(u64::from(LARGEST_ROSTER)) as u32;
     let mut state = State::opened(size, &NodeSet::new());
-    let full = prng.once_in(3);
-    let groups = if full {
-        MOST_GROUPS
-    } else {
-        1 + prng.below(MOST_GROUPS as u64) as usize
+    let missing = prng.pick(&[Some(0), Some(1), None]);
+    let groups = match missing {
+        Some(_) => MOST_GROUPS,
+        None => 1 + prng.below(MOST_GROUPS as u64) as usize,
     };
     let pids = pids(prng, size);
-    for s in names(prng, groups, u64::from(LARGEST_GROUP_NAME)) {
+    for (place, s) in (0..).zip(names(prng, groups, u64::from(LARGEST_GROUP_NAME))) {
         let members = members(prng, size);
         state.link_all(&members);
-        let many = if full {
-            MOST_NAMES
-        } else {
-            prng.below(MOST_NAMES as u64 + 1) as usize
+        let many = match missing {
+            Some(missing) => MOST_NAMES - if place == 0 { missing } else { 0 },
+            None => prng.below(MOST_NAMES as u64 + 1) as usize,
         };
         let group = SGroup {
             members,
@@ -80,4 +79,20 @@ fn registered(prng: &mut Prng, many: usize, pids: &[u32]) -> BTreeMap<u32, u32> 
         (n, left.swap_remove(place))
     });
     with_pid.collect()
+}
+
+/// A registration that takes the last place for a name, where there is just one.
+pub fn last_name(state: &State) -> Option<Request> {
+    let many: usize = state.s_groups.values().map(|group| group.names.len()).sum();
+    if many + 1 != MOST_GROUPS * MOST_NAMES {
+        return None;
+    }
+    let mut groups = state.s_groups.iter();
+    let (s, group) = groups.find(|(_, group)| group.names.len() < MOST_NAMES)?;
+    let n = (1..).find(|n| !group.names.contains_key(n))?;
+    let p = (0..).find(|p| !group.holds_pid(*p))?;
+    Some(Request::Call {
+        caller: *group.members.first()?,
+        command: Command::RegisterName { s: *s, n, p },
+    })
 }

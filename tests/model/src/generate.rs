@@ -146,6 +146,11 @@ impl Generator {
         request
     }
 
+    /// Takes this request into account, as if it were the run's own.
+    pub fn take(&mut self, request: &Request) {
+        self.session.answer(request);
+    }
+
     fn malformed_line(&mut self) -> Vec<u8> {
         let base = if self.prng.once_in(6) {
             self.opening()

@@ -7,8 +7,9 @@ use crate::kept::{run_of, run_text};
 use crate::parts::{parts, take_out};
 use crate::smaller::{lower_numbers, lower_requests, shorten};
 use model::command::{Command, Request};
-use model::index::{index_of, IndexRequest};
+use model::index::{walk, Entry, IndexRequest, ENTRY};
 use model::script::parse;
+use model::state::State;
 use model::table::{state_of, words_of};
 
 /// The case as text.
@@ -45,16 +46,18 @@ pub fn read(text: &str) -> Option<Case> {
 /// Whether a case still fails.
 type Fails<'a> = &'a dyn Fn(&Case) -> bool;
 
-/// A smaller case that still fails. A sound table with its own index is made smaller in the model's state, and both are laid out again; else words become zero.
+/// A smaller case that still fails. A sound table is made smaller in the model's state and laid out again, and the index loses what the table loses; of any other,
+/// words become zero.
 pub fn smaller(case: &Case, fails: Fails) -> Case {
     let mut best = case.clone();
     loop {
         let before = best.clone();
-        if matching(&best) {
+        if sound(&best.table) {
             smaller_state(&mut best, fails);
         } else {
-            zeroed(&mut best, fails);
+            zeroed(&mut best, fails, |case| &mut case.table);
         }
+        zeroed(&mut best, fails, |case| &mut case.index);
         smaller_request(&mut best, fails);
         attempt(&mut best, fails, |case| case.out.fill(0));
         attempt(&mut best, fails, |case| case.answer.fill(0));
@@ -63,12 +66,6 @@ pub fn smaller(case: &Case, fails: Fails) -> Case {
             return best;
         }
     }
-}
-
-/// Whether the index is that of a sound table.
-fn matching(case: &Case) -> bool {
-    let state = sound(&case.table).then(|| state_of(&case.table));
-    state.is_some_and(|state| state.is_ok_and(|state| case.index == index_of(&state)))
 }
 
 /// Takes the change where the case still fails; says whether it did.
@@ -85,8 +82,8 @@ fn attempt(best: &mut Case, fails: Fails, change: impl Fn(&mut Case)) -> bool {
 /// Takes out each part of the state that isn't needed.
 fn smaller_state(best: &mut Case, fails: Fails) {
     for part in state_of(&best.table).iter().flat_map(parts) {
-        attempt(best, &|case| matching(case) && fails(case), |case| {
-            let Ok(mut state) = state_of(&case.table) else {
+        attempt(best, &|case| sound(&case.table) && fails(case), |case| {
+            let Ok(before) = state_of(&case.table) else {
                 return;
             };
             // A request that names no node stays as it is.
@@ -98,25 +95,41 @@ fn smaller_state(best: &mut Case, fails: Fails) {
                 IndexRequest::Beside(request) => request,
                 _ => &mut none,
             };
+            let mut state = before.clone();
             take_out(&part, &mut state, request);
             case.table = words_of(&state);
-            case.index = index_of(&state);
+            case.index = carried(&case.index, &before, &state);
         });
     }
 }
 
-fn zeroed(best: &mut Case, fails: Fails) {
-    for place in (0..best.table.len())
-        .filter(|place| best.table[*place] != 0)
-        .collect::<Vec<_>>()
-    {
-        attempt(best, fails, |case| case.table[place] = 0);
-    }
-    for place in (0..best.index.len())
-        .filter(|place| best.index[*place] != 0)
-        .collect::<Vec<_>>()
-    {
-        attempt(best, fails, |case| case.index[place] = 0);
+/// The index with its right entries as they are after a change of the state: gone with their names, or with another pid. All other words stay.
+fn carried(index: &[u64], before: &State, after: &State) -> Vec<u64> {
+    let moved = |entry: &Entry| {
+        let group = after.s_groups.get(&entry.s)?;
+        let p = *group.names.get(&entry.n)?;
+        Some(Entry { p, ..*entry }.words().to_vec())
+    };
+    let entries = walk(before);
+    let rows = index.chunks(ENTRY).filter_map(|row| {
+        let right = entries.iter().find(|entry| entry.words() == row);
+        right.map_or_else(|| Some(row.to_vec()), moved)
+    });
+    let mut words: Vec<u64> = rows.flatten().collect();
+    words.resize(index.len(), 0);
+    words
+}
+
+/// Words of a run become zero.
+fn zeroed(best: &mut Case, fails: Fails, run: impl Fn(&mut Case) -> &mut Vec<u64>) {
+    let used: Vec<usize> = run(best)
+        .iter()
+        .enumerate()
+        .filter(|(_, word)| **word != 0)
+        .map(|(place, _)| place)
+        .collect();
+    for place in used {
+        attempt(best, fails, |case| run(case)[place] = 0);
     }
 }
 

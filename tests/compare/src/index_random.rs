@@ -71,14 +71,14 @@ pub struct Kinds {
     pub fault: Option<Fault>,
 }
 
-/// Which fault comes next for each call, so that each call meets each.
+/// How often each call met each fault, so that each meets all of them.
 #[derive(Default)]
 pub struct Faults {
-    next: BTreeMap<Called, usize>,
+    met: BTreeMap<(Called, Fault), usize>,
 }
 
 impl Faults {
-    /// The index with the next fault for this call; where that leaves it right, the fault comes again.
+    /// The index with the fault that this call met least, of those that leave it wrong.
     fn on(
         &mut self,
         called: Called,
@@ -86,11 +86,15 @@ impl Faults {
         stale: &[u64],
         prng: &mut Prng,
     ) -> (Fault, Vec<u64>) {
-        let faults = called.faults();
-        let next = self.next.entry(called).or_default();
-        let fault = faults[*next % faults.len()];
-        let index = fault.on(right, stale, prng);
-        *next += usize::from(index != right);
+        let mut faults = called.faults();
+        faults.sort_by_key(|fault| self.met.get(&(called, *fault)).copied().unwrap_or(0));
+        let mut faulty = faults.into_iter();
+        let wrong = faulty.find_map(|fault| {
+            let index = fault.on(right, stale, prng);
+            (index != right).then_some((fault, index))
+        });
+        let (fault, index) = wrong.expect("another length is always wrong");
+        *self.met.entry((called, fault)).or_default() += 1;
         (fault, index)
     }
 }

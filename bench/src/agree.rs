@@ -29,7 +29,7 @@ fn which(form: Form) -> Which {
 }
 
 /// The request as a call; an argument that the command does not take is 0.
-fn call_of(request: &Request) -> (Which, Asked) {
+pub fn call_of(request: &Request) -> (Which, Asked) {
     match request {
         Request::Open { n, hidden } => (
             Which::Open,

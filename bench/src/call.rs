@@ -1,6 +1,7 @@
 //! A call with its arguments, and loops of calls on one side.
 
 use crate::api::Api;
+use crate::plain::sizes::{BODY, GROUPS};
 use std::hint::black_box;
 
 /// The fifteen commands and opening.
@@ -35,6 +36,9 @@ pub struct Asked {
     pub set: u64,
 }
 
+/// Words of the run for lists: own_s_groups has two an s_group, registered_names one a name.
+pub const LIST_ROOM: usize = 2 * GROUPS + BODY;
+
 /// The runs that are lent to every call.
 #[derive(Clone, PartialEq, Eq)]
 pub struct Lent {
@@ -47,7 +51,7 @@ impl Lent {
     pub fn new(table: &[u64]) -> Lent {
         Lent {
             table: table.to_vec(),
-            out: vec![0; 64],
+            out: vec![0; LIST_ROOM],
             answer: vec![0; 4],
         }
     }

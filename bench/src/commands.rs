@@ -2,7 +2,7 @@
 
 use crate::api::{Api, PLAIN, PLAIN_UNTESTED, PROVED, PROVED_UNTESTED};
 use crate::call::{calls, no_calls, Asked, Lent, Which};
-use crate::plain::sound::{BODIES, BODY, CONTENTS, MEMBERS};
+use crate::plain::sizes::{BODIES, BODY, CONTENTS, MEMBERS};
 use crate::race::{best, quicker_half, race, Count};
 use crate::strangers::STRANGER;
 use crate::tables::{full_with, halves, subset, table, Size, FULL, SMALL};
@@ -111,7 +111,7 @@ pub fn timed(sides: Sides, which: Which, words: &[u64], asked: &[Asked]) -> (f64
         count,
         rounds,
         turns,
-        |_| {
+        |_, _| {
             lent.borrow_mut()
                 .iter_mut()
                 .for_each(|own| own.restore(words))
@@ -131,7 +131,7 @@ pub fn test_timed(tables: &[Vec<u64>]) -> (f64, f64) {
         best,
         TEST_ROUNDS,
         TURNS,
-        |_| {},
+        |_, _| {},
         |side, _| {
             let all = tables.iter().cycle().take(TESTS);
             let sound: u64 = all
@@ -165,7 +165,7 @@ pub fn heading(what: &str) {
 }
 
 /// The same size with a name and a group less, so that one more of each fits.
-fn roomy(size: Size) -> Size {
+pub fn roomy(size: Size) -> Size {
     Size {
         groups: size.groups.max(2) - 1,
         names: size.names.max(2) - 1,
@@ -309,7 +309,7 @@ pub fn growth(seed: u64) {
     heading("the test as the s_groups grow");
     for groups in [1, 2, 4, 8, 16, 32] {
         one(
-            format!("64 nodes, {groups} groups of 16 nodes, 32 names"),
+            format!("64 nodes, {groups} groups of 16 nodes, {BODY} names"),
             Size { groups, ..FULL },
         );
     }

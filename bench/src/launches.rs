@@ -3,6 +3,7 @@
 use crate::api::{Api, PLAIN, PROVED};
 use crate::call::Lent;
 use crate::commands::{heading, row, BAR};
+use crate::plain::sizes::{GROUPS, WORDS};
 use crate::race::{best, race};
 use model::launch_gen::{self, changed, Launch};
 use model::mutate::random_words;
@@ -23,7 +24,6 @@ const FEWEST_ROUNDS: u64 = 2;
 const MOST_ROUNDS: u64 = 2_000;
 
 const NODES: usize = 64;
-const TABLE_WORDS: usize = 1220;
 /// The most lines of a book of 64 nodes.
 const MOST_LINES: usize = NODES + 65_535;
 /// About how many bytes the value has that a file is made to skip.
@@ -40,7 +40,7 @@ struct Size {
 }
 
 const MAIN: Size = Size {
-    groups: 32,
+    groups: GROUPS,
     nodes: 16,
     lines: 100,
 };
@@ -90,14 +90,14 @@ fn agreed(lent: &Lent, given: &Launch) -> u32 {
 
 /// Runs that no launch leaves so.
 fn used() -> Lent {
-    Lent::new(&[u64::MAX; TABLE_WORDS])
+    Lent::new(&[u64::MAX; WORDS])
 }
 
 /// Random words for the runs, now and then of another length.
 fn random_runs(prng: &mut Prng) -> Lent {
     let mut lent = Lent::new(&random_words(prng));
     if prng.once_in(12) {
-        let length = prng.pick(&[0, TABLE_WORDS - 1, TABLE_WORDS + 1]);
+        let length = prng.pick(&[0, WORDS - 1, WORDS + 1]);
         lent.table.resize(length, 7);
     }
     if prng.once_in(12) {
@@ -292,7 +292,7 @@ fn timed(all: &[Launch]) -> (f64, f64) {
         best,
         rounds as usize,
         all.len(),
-        |_| {},
+        |_, _| {},
         |side, k| match sides.get(side) {
             Some(api) => u64::from(called(api, &mut lent, &all[k])),
             None => all[k].hidden,

@@ -4,7 +4,7 @@
 use crate::api::{PLAIN, PLAIN_UNTESTED, PROVED, PROVED_UNTESTED};
 use crate::call::{outcome, Asked, Lent, Which};
 use crate::commands::{heading, pick, row, timed, BAR, CALLS, TESTED, TESTED_CALLS, UNTESTED};
-use crate::plain::sound::{CONTENTS, MEMBERS};
+use crate::plain::sizes::{BODY, CONTENTS, MEMBERS};
 use crate::tables::{hosted, subset, Size, FULL};
 use model::prng::Prng;
 
@@ -98,7 +98,7 @@ fn random(prng: &mut Prng) -> (Vec<u64>, Asked, usize) {
         nodes,
         groups: 1 + prng.below(4) as usize,
         members: 2 + prng.below(nodes - 1),
-        names: 1 + prng.below(32) as usize,
+        names: 1 + prng.below(BODY as u64) as usize,
     };
     let homes = prng.word();
     let words = hosted(prng, size, |prng, members, _| {

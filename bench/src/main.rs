@@ -1,5 +1,5 @@
 //! Times the proved library against plain Rust written for speed, in one run, and prints the ratios: `bench SEED [PROGRAM WORD..]`. First both are held to
-//! the same answers and words on random calls, removals, lookups, namespaces and launches, and to the same lines on the scripts; `bench agree SEED [PROGRAM WORD..]` does that
+//! the same answers and words on random calls, with an index and without, removals, lookups, namespaces and launches, and to the same lines on the scripts; `bench agree SEED [PROGRAM WORD..]` does that
 //! alone, and holds the stack of each call to its bar. `bench launch-file SEED` prints the launch file that is timed first.
 //! Needs target/native/libsgroup_c.a; `bench/run` builds it, and gives the words that run the script program.
 
@@ -7,6 +7,9 @@ mod agree;
 mod api;
 mod call;
 mod commands;
+mod index_api;
+mod index_call;
+mod indexes;
 mod launches;
 mod leaving;
 mod namespaces;
@@ -70,6 +73,16 @@ fn agree_on_lookups(seed: u64) {
     println!("of these {members} find a member, {strangers} a stranger");
 }
 
+fn agree_on_indexes(seed: u64) {
+    let indexes::Agreed {
+        calls,
+        done,
+        mismatches,
+    } = indexes::agree(seed);
+    println!("{calls} random calls with an index: the same answers and words");
+    println!("of these {done} are done, {mismatches} have a wrong index");
+}
+
 fn agree_on_launches(seed: u64) {
     let launches = launches::agree(seed);
     println!("{launches} random launches: the same answers, places and words");
@@ -93,6 +106,7 @@ fn agree_only(seed: u64, program: &[String]) {
     agree_on_calls(seed);
     agree_on_removals(seed);
     agree_on_lookups(seed);
+    agree_on_indexes(seed);
     agree_on_namespaces(seed);
     agree_on_launches(seed);
     hold_stack(seed);
@@ -112,6 +126,9 @@ fn times(seed: u64, program: &[String]) {
     println!();
     agree_on_lookups(seed);
     strangers::times(seed);
+    println!();
+    agree_on_indexes(seed);
+    indexes::times(seed);
     commands::growth(seed);
     stack::depths(seed);
     println!();

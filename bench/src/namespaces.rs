@@ -5,6 +5,7 @@ use crate::agree::says_sound;
 use crate::api::{PLAIN, PROVED};
 use crate::call::{outcome, Lent, Which};
 use crate::commands::{commands, heading, main_cases, row, test_timed, BAR, CALLS, UNTESTED};
+use crate::plain::sizes::{BODIES, BODY, CONTENTS};
 use crate::tables::{table, Size};
 use model::prng::Prng;
 
@@ -16,10 +17,6 @@ const NAMING: [Which; 3] = [
 ];
 /// Random namespaces on which both sides agree.
 const AGREED: u64 = 200_000;
-/// The names that an s_group can hold, and where the words of the first one's are.
-const ROOM: usize = 32;
-const CONTENTS: usize = 4;
-const NAMES: usize = 196;
 
 /// One s_group with so many names.
 fn one_group(names: usize) -> Size {
@@ -33,8 +30,8 @@ fn one_group(names: usize) -> Size {
 
 /// A change to one name's word or to the count of names, so that the namespace is often unsound.
 fn spoil(prng: &mut Prng, words: &mut [u64]) {
-    let i = NAMES + prng.below(ROOM as u64) as usize;
-    let j = NAMES + prng.below(ROOM as u64) as usize;
+    let i = BODIES + prng.below(BODY as u64) as usize;
+    let j = BODIES + prng.below(BODY as u64) as usize;
     match prng.below(7) {
         0 => words.swap(i, j),
         1 => words[i] = (words[i] >> 32) << 32 | (words[j] & 0xffff_ffff),
@@ -50,7 +47,7 @@ fn spoil(prng: &mut Prng, words: &mut [u64]) {
 pub fn agree(seed: u64) -> u64 {
     let mut prng = Prng::new(seed);
     for round in 0..AGREED {
-        let names = 1 + prng.below(ROOM as u64) as usize;
+        let names = 1 + prng.below(BODY as u64) as usize;
         let mut words = table(&mut prng, one_group(names));
         let asked = NAMING.map(|which| main_cases(&mut prng, which, &words, 1)[0]);
         if round % 2 == 1 {
@@ -73,7 +70,7 @@ pub fn agree(seed: u64) -> u64 {
 /// The commands on names without the test, and the test, for few names and for as many as fit.
 pub fn times(seed: u64) {
     let mut prng = Prng::new(seed);
-    for names in [4, ROOM] {
+    for names in [4, BODY] {
         heading(&format!("one s_group of {names} names, without the test"));
         commands(&mut prng, &NAMING, one_group(names), UNTESTED, CALLS);
         let tables = [0; 2].map(|_| table(&mut prng, one_group(names)));

@@ -18,13 +18,13 @@ pub fn best(times: &mut [u64]) -> f64 {
     times.iter().min().map_or(0.0, |best| *best as f64)
 }
 
-/// The time of each side in nanoseconds, summed up over its turns. Each turn is timed so many rounds; `ready` comes before each turn and is not timed. Every
+/// The time of each side in nanoseconds, summed up over its turns. Each turn is timed so many rounds; `ready` comes before each turn of a side and is not timed. Every
 /// other round goes through the sides backwards: who comes second finds the branch predictor told of the turn's data by who came first.
 pub fn race<const SIDES: usize>(
     count: Count,
     rounds: usize,
     turns: usize,
-    mut ready: impl FnMut(usize),
+    mut ready: impl FnMut(usize, usize),
     mut turn: impl FnMut(usize, usize) -> u64,
 ) -> [f64; SIDES] {
     let none = || std::array::from_fn(|_| Vec::with_capacity(rounds));
@@ -37,7 +37,7 @@ pub fn race<const SIDES: usize>(
                 } else {
                     SIDES - 1 - step
                 };
-                ready(side);
+                ready(side, k);
                 let start = Instant::now();
                 black_box(turn(side, k));
                 times[side].push(start.elapsed().as_nanos() as u64);

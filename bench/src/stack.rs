@@ -3,6 +3,9 @@
 use crate::api::{Api, PROVED};
 use crate::call::{calls, Asked, Lent, Which};
 use crate::commands::{free_rows, main_cases};
+use crate::index_api;
+use crate::index_call::call;
+use crate::indexes;
 use crate::launches::{called, stack_rows};
 use crate::tables::{table, Size, FULL};
 use model::prng::Prng;
@@ -88,6 +91,12 @@ fn measure(seed: u64) -> Vec<(String, usize)> {
     for which in Which::COMMANDS {
         all.push((format!("{which:?}"), command(&mut prng, base, which)));
     }
+    for (what, called, calls) in indexes::stack_rows(&mut prng) {
+        let deepest = calls.into_iter().map(|(mut lent, asked)| {
+            depth(&mut || u64::from(call(&index_api::PROVED, called, &mut lent, &asked)))
+        });
+        all.push((what, deepest.max().unwrap_or(0).saturating_sub(base)));
+    }
     for (what, given) in stack_rows(&mut prng) {
         let mut lent = Lent::new(&words);
         let bytes = depth(&mut || u64::from(called(&PROVED, &mut lent, &given)));
@@ -104,8 +113,8 @@ fn test(api: &Api, words: &[u64]) -> u64 {
 /// The deepest of many calls of a command on a nearly full table, and of its calls that move most free nodes.
 fn command(prng: &mut Prng, base: usize, which: Which) -> usize {
     let nearly = Size {
-        groups: 31,
-        names: 31,
+        groups: FULL.groups - 1,
+        names: FULL.names - 1,
         ..FULL
     };
     let words = table(prng, nearly);

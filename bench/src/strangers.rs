@@ -6,6 +6,7 @@ use crate::call::{outcome, Asked, Lent, Which};
 use crate::commands::{
     heading, main_cases, pick, row, timed, BAR, CALLS, TESTED, TESTED_CALLS, UNTESTED,
 };
+use crate::plain::sizes::BODY;
 use crate::tables::{hosted, Size, FULL, SMALL};
 use model::prng::Prng;
 
@@ -73,7 +74,7 @@ fn random(prng: &mut Prng) -> Vec<u64> {
         nodes,
         groups: 1 + prng.below(4) as usize,
         members: 1 + prng.below(nodes),
-        names: 1 + prng.below(32) as usize,
+        names: 1 + prng.below(BODY as u64) as usize,
     };
     hosted(prng, size, |prng, members, _| {
         if prng.once_in(3) {

@@ -1,6 +1,6 @@
 //! Sound tables of a chosen size.
 
-use crate::plain::sound::{BODIES, BODY, CONTENTS, FREE, LINKS, MEMBERS, WORDS};
+use crate::plain::sizes::{BODIES, BODY, CONTENTS, FREE, GROUPS, LINKS, MEMBERS, WORDS};
 use model::prng::Prng;
 
 /// How large a table is: nodes, s_groups, members of each, names of each.
@@ -14,9 +14,9 @@ pub struct Size {
 
 pub const FULL: Size = Size {
     nodes: 64,
-    groups: 32,
+    groups: GROUPS,
     members: 16,
-    names: 32,
+    names: BODY,
 };
 pub const SMALL: Size = Size {
     nodes: 4,
@@ -52,8 +52,8 @@ fn names(prng: &mut Prng, size: Size, serial: &mut [u64]) -> Vec<u64> {
 /// The full table with other pids: entry k of group g has the host 2k and the number that is given for both.
 pub fn full_with(prng: &mut Prng, number: impl Fn(u64, u64) -> u64) -> Vec<u64> {
     let mut words = table(prng, FULL);
-    for group in 0..32 {
-        for k in 0..32 {
+    for group in 0..GROUPS {
+        for k in 0..BODY {
             let word = &mut words[BODIES + BODY * group + k];
             *word = (*word >> 32) << 32
                 | (2 * k as u64 * PIDS_PER_HOST + number(group as u64, k as u64));

@@ -1,15 +1,16 @@
 //! The plain functions with the interface of the proved library: lent runs as pointers and lengths, with the test before each step or without.
 
 use super::launch;
-use super::sound::{self, Table};
+use super::sizes::Table;
+use super::sound;
 use super::steps::{self, error, Answer};
 use crate::api::Api;
 use std::slice::{from_raw_parts, from_raw_parts_mut};
 
-const ANSWER_WORDS: usize = 4;
+pub const ANSWER_WORDS: usize = 4;
 
 /// Writes the answer; the reason.
-fn put(run: &mut [u64], answer: Answer) -> u32 {
+pub fn put(run: &mut [u64], answer: Answer) -> u32 {
     run[..ANSWER_WORDS].copy_from_slice(&answer);
     answer[3] as u32
 }

@@ -6,7 +6,7 @@ mod groups;
 mod window;
 mod words;
 
-use super::sound::Table;
+use super::sizes::Table;
 use super::steps::{self, error, Answer};
 use book::Book;
 use groups::Groups;

@@ -1,6 +1,7 @@
 //! A whole script in plain Rust, written for speed: what the script program prints.
 
-use super::sound::{is_sound, Table, WORDS};
+use super::sizes::{Table, WORDS};
+use super::sound::is_sound;
 use super::steps::{self, error, Answer};
 
 const LONGEST_SCRIPT: usize = 65_536;

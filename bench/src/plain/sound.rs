@@ -1,14 +1,6 @@
 //! The soundness test in plain Rust, written for speed.
 
-pub const WORDS: usize = 1220;
-pub const CONTENTS: usize = 4;
-pub const MEMBERS: usize = 36;
-pub const LINKS: usize = 68;
-pub const FREE: usize = 132;
-pub const BODIES: usize = 196;
-pub const BODY: usize = 32;
-
-pub type Table = [u64; WORDS];
+use super::sizes::{Table, BODIES, BODY, CONTENTS, FREE, GROUPS, LINKS, MEMBERS};
 
 /// Below this many nodes, pairs are quicker than the turned matrix.
 const TURNED_FROM: usize = 22;
@@ -30,7 +22,7 @@ fn any(words: &[u64]) -> u64 {
 #[inline(never)]
 pub fn is_sound(t: &Table) -> bool {
     let (size, hidden, count) = (t[0], t[1], t[2]);
-    if size.wrapping_sub(1) > 63 || count > 32 || t[3] != 0 {
+    if size.wrapping_sub(1) > 63 || count > GROUPS as u64 || t[3] != 0 {
         return false;
     }
     let roster = u64::MAX >> (64 - size);
@@ -43,7 +35,7 @@ pub fn is_sound(t: &Table) -> bool {
         .zip(&t[MEMBERS..MEMBERS + g])
     {
         let name = contents & 0xffff;
-        right &= (last < name) & (contents >> 16 <= 32) & (*members != 0);
+        right &= (last < name) & (contents >> 16 <= BODY as u64) & (*members != 0);
         last = name;
         grouped |= members;
     }

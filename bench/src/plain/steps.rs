@@ -1,11 +1,13 @@
 //! The steps of the fifteen commands on a sound table, in plain Rust, written for speed.
 
-use super::sound::{nodes, Table, BODIES, BODY, CONTENTS, FREE, LINKS, MEMBERS};
+use super::sizes::{Table, BODIES, BODY, CONTENTS, FREE, GROUPS, LINKS, MEMBERS};
+use super::sound::nodes;
 
 /// Kind, first number, second number, reason.
 pub type Answer = [u64; 4];
 
 const TRUE: u64 = 2;
+pub const TRUE_DONE: Answer = [TRUE, 0, 0, 0];
 const FALSE: u64 = 3;
 const ERROR: u64 = 4;
 const UNDEFINED: u64 = 5;
@@ -23,16 +25,16 @@ fn pid(p: u32, reason: u64) -> Answer {
     [PID, u64::from(p), 0, reason]
 }
 
-fn host(p: u32) -> usize {
+pub fn host(p: u32) -> usize {
     (p >> 26) as usize
 }
 
-fn size(t: &Table) -> u64 {
+pub fn size(t: &Table) -> u64 {
     t[0]
 }
 
-fn groups(t: &Table) -> usize {
-    (t[2] as usize).min(32)
+pub fn groups(t: &Table) -> usize {
+    (t[2] as usize).min(GROUPS)
 }
 
 /// Where the s_group is, or where it would be.
@@ -57,11 +59,11 @@ fn as_member(t: &Table, node: u32, s: u32) -> Result<usize, u64> {
     }
 }
 
-fn count(t: &Table, i: usize) -> usize {
+pub fn count(t: &Table, i: usize) -> usize {
     ((t[CONTENTS + i] >> 16) as usize).min(BODY)
 }
 
-fn body(t: &Table, i: usize) -> &[u64; BODY] {
+pub fn body(t: &Table, i: usize) -> &[u64; BODY] {
     t[BODIES + BODY * i..][..BODY].try_into().unwrap()
 }
 
@@ -143,7 +145,7 @@ fn become_free(t: &mut Table, gone: u64) {
 }
 
 fn insert_group(t: &mut Table, at: usize, s: u32, set: u64) {
-    let g = groups(t).min(31);
+    let g = groups(t).min(GROUPS - 1);
     t.copy_within(CONTENTS + at..CONTENTS + g, CONTENTS + at + 1);
     t.copy_within(MEMBERS + at..MEMBERS + g, MEMBERS + at + 1);
     t.copy_within(
@@ -170,16 +172,16 @@ fn drop_group(t: &mut Table, at: usize) {
     t[2] -= 1;
 }
 
-/// The names go whose pid lives on a node that left. The hosts of all are gathered first: mostly none of them left, sometimes all. Else each name is moved
-/// without a branch, since which ones go cannot be foretold.
-fn drop_hosted(t: &mut Table, i: usize, gone: u64) {
+/// The names go whose pid lives on a node that left; the hosts of these. The hosts of all are gathered first: mostly none of them left, sometimes all. Else each
+/// name is moved without a branch, since which ones go cannot be foretold.
+fn drop_hosted(t: &mut Table, i: usize, gone: u64) -> u64 {
     let held = count(t, i);
     let body = body_mut(t, i);
     let hosts = body[..held]
         .iter()
         .fold(0u64, |hosts, word| hosts | 1 << (word >> 26 & 63));
     if hosts & gone == 0 {
-        return;
+        return 0;
     }
     let mut kept = 0;
     if hosts & !gone != 0 {
@@ -191,6 +193,7 @@ fn drop_hosted(t: &mut Table, i: usize, gone: u64) {
     }
     body[kept..held].fill(0);
     t[CONTENTS + i] -= 65_536 * (held - kept) as u64;
+    hosts & gone
 }
 
 // ---- the commands
@@ -217,42 +220,68 @@ pub fn register_name(t: &mut Table, caller: u32, s: u32, n: u32, p: u32) -> Answ
     said(TRUE, 0)
 }
 
+/// True where it is done.
+#[inline(always)]
+fn done<T>(step: Result<T, Answer>) -> Answer {
+    match step {
+        Ok(_) => TRUE_DONE,
+        Err(answer) => answer,
+    }
+}
+
 pub fn re_register_name(t: &mut Table, caller: u32, s: u32, n: u32, p: u32) -> Answer {
-    let i = match naming(t, caller, s, n, Some(p), FALSE) {
-        Ok(i) => i,
-        Err(answer) => return answer,
-    };
+    done(replace_name(t, caller, s, n, p))
+}
+
+/// The same; the pid that the name had, where it had one.
+#[inline(always)]
+pub fn replace_name(
+    t: &mut Table,
+    caller: u32,
+    s: u32,
+    n: u32,
+    p: u32,
+) -> Result<Option<u32>, Answer> {
+    let i = naming(t, caller, s, n, Some(p), FALSE)?;
     let held = count(t, i);
     let body = body_mut(t, i);
     if holds_pid(&body[..held], p) {
-        return said(FALSE, 11);
+        return Err(said(FALSE, 11));
     }
     match seat(&body[..held], n) {
-        Ok(at) => body[at] = entry(n, p),
-        Err(_) if held == BODY => return said(FALSE, 13),
+        Ok(at) => {
+            let old = body[at] as u32;
+            body[at] = entry(n, p);
+            Ok(Some(old))
+        }
+        Err(_) if held == BODY => Err(said(FALSE, 13)),
         Err(at) => {
             body.copy_within(at..held, at + 1);
             body[at] = entry(n, p);
             t[CONTENTS + i] += 65_536;
+            Ok(None)
         }
     }
-    said(TRUE, 0)
 }
 
 pub fn unregister_name(t: &mut Table, caller: u32, s: u32, n: u32) -> Answer {
-    let i = match naming(t, caller, s, n, None, FALSE) {
-        Ok(i) => i,
-        Err(answer) => return answer,
-    };
+    done(take_name(t, caller, s, n))
+}
+
+/// The same; the pid that the name had.
+#[inline(always)]
+pub fn take_name(t: &mut Table, caller: u32, s: u32, n: u32) -> Result<u32, Answer> {
+    let i = naming(t, caller, s, n, None, FALSE)?;
     let held = count(t, i);
     let body = body_mut(t, i);
     let Ok(at) = seat(&body[..held], n) else {
-        return said(TRUE, 12);
+        return Err(said(TRUE, 12));
     };
+    let old = body[at] as u32;
     body.copy_within(at + 1..held, at);
     body[held - 1] = 0;
     t[CONTENTS + i] -= 65_536;
-    said(TRUE, 0)
+    Ok(old)
 }
 
 /// Reasons 4 to 9 of a command on a name: the s_group, or the answer.
@@ -396,7 +425,7 @@ pub fn new_s_group(t: &mut Table, caller: u32, s: u32, set: u64) -> Answer {
     let Err(at) = place(t, s) else {
         return error(15);
     };
-    if groups(t) == 32 {
+    if groups(t) == GROUPS {
         return error(16);
     }
     interconnect(t, set);
@@ -422,23 +451,27 @@ pub fn add_nodes(t: &mut Table, caller: u32, s: u32, set: u64) -> Answer {
 }
 
 pub fn remove_nodes(t: &mut Table, caller: u32, s: u32, set: u64) -> Answer {
+    done(remove_members(t, caller, s, set))
+}
+
+/// The same; the hosts whose names the s_group lost.
+#[inline(always)]
+pub fn remove_members(t: &mut Table, caller: u32, s: u32, set: u64) -> Result<u64, Answer> {
     let reason = on_set(t, caller, s, set);
     if reason != 0 {
-        return error(reason);
+        return Err(error(reason));
     }
-    let i = match as_member(t, caller, s) {
-        Ok(i) => i,
-        Err(reason) => return error(reason),
-    };
+    let i = as_member(t, caller, s).map_err(error)?;
     let members = t[MEMBERS + i];
+    let mut hosts = u64::MAX;
     if members & !set == 0 {
         drop_group(t, i);
     } else {
-        drop_hosted(t, i, members & set);
+        hosts = drop_hosted(t, i, members & set);
         t[MEMBERS + i] = members & !set;
     }
     become_free(t, members & set);
-    said(TRUE, 0)
+    Ok(hosts)
 }
 
 pub fn delete_s_group(t: &mut Table, caller: u32, s: u32) -> Answer {

@@ -8,6 +8,7 @@ use Rattle.answers.specs.Answers.{number}
 use Rattle.answers.specs.Outputs.{kind, numbers}
 use Rattle.commands.specs.declared.Command.{Command}
 use Rattle.semantics.specs.Call.{Call, call, listed-over}
+use Rattle.indexes.specs.IndexCalls.{Indexed, indexed}
 use Rattle.answers.specs.declared.Answer.{Answer}
 use Rattle.answers.specs.declared.Value.{Value}
 
@@ -48,3 +49,17 @@ told c answer out table =
 -- the command of a caller, with lent runs for its answer and list, on a table
 abbrev pub commanded : ℕ → Command → List ℕ → List ℕ → List ℕ → Told
 commanded i c answer out table = told (call (length out) i c table) answer out table
+
+-- what is told with an index beside the table, and the index afterwards
+pub record ToldIndexed : Type 0 where
+  pub told : Told
+  pub index : List ℕ
+
+-- a call with an index, with lent runs for its answer and list
+unfoldable pub told-indexed : Indexed → List ℕ → List ℕ → List ℕ → List ℕ → ToldIndexed
+told-indexed d answer out table index =
+    record { told = told (d .given) answer out table; index = cond (ltb (length answer) answer-words) index (d .index) }
+
+-- the command of a caller, with lent runs for its answer and list, on a table with an index
+abbrev pub commanded-indexed : ℕ → Command → List ℕ → List ℕ → List ℕ → List ℕ → ToldIndexed
+commanded-indexed i c answer out table index = told-indexed (indexed (length out) i c table index) answer out table index

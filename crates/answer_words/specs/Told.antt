@@ -9,7 +9,8 @@ use Rattle.answers.specs.Answers.{number}
 use Rattle.answers.specs.Outputs.{kind}
 use Rattle.semantics.specs.Call.{Call, listed-over}
 use Rattle.answers.specs.declared.Answer.{Answer}
-use Rattle.answer_words.specs.AnswerWords.{Told, answer-words, no-room, first, second, answer-in, told}
+use Rattle.indexes.specs.IndexCalls.{Indexed, written}
+use Rattle.answer_words.specs.AnswerWords.{Told, ToldIndexed, answer-words, no-room, first, second, answer-in, told, told-indexed}
 
 -- ---- what is to be shown: the number that is returned and the answer's run; with them the table, or the list's run
 
@@ -21,6 +22,10 @@ TellsTable t r answer table = (r ≡ t .returned) × ((answer ≡ t .answer) × 
 
 abbrev pub TellsList : Told → ℕ → List ℕ → List ℕ → Type 0
 TellsList t r answer list = (r ≡ t .returned) × ((answer ≡ t .answer) × (list ≡ t .list))
+
+-- with them the table and its index
+abbrev pub TellsIndexed : ToldIndexed → ℕ → List ℕ → List ℕ → List ℕ → Type 0
+TellsIndexed t r answer table index = (r ≡ t .told .returned) × ((answer ≡ t .told .answer) × ((table ≡ t .told .table) × (index ≡ t .index)))
 
 -- ---- without room nothing is called, and every word stays
 
@@ -58,6 +63,35 @@ module _ (c : Call) (answer out table : List ℕ) (room : answer-words ≤ lengt
 
   pub tells-list : {a : Answer} {r : ℕ} {run next : List ℕ} → (a ≡ c .answer) × (next ≡ listed-over (c .list) out) → Put a answer r run → TellsList (told c answer out table) r run next
   tells-list e w = (tells (e .0) w .0, (tells (e .0) w .1, rw called (e .1)))
+
+-- ---- with an index
+
+pub silent-indexed : (d : Indexed) (answer out table index : List ℕ) → length answer < answer-words → TellsIndexed (told-indexed d answer out table index) no-room answer table index
+unfolding told-indexed
+silent-indexed d answer out table index short =
+    let w = silent-table (d .given) answer out table short in
+    (w .0, (w .1 .0, (w .1 .1, rw (lt-ltb (length answer) answer-words short))))
+
+module _ (d : Indexed) (answer out table index : List ℕ) (room : answer-words ≤ length answer) where
+  pub tells-indexed : {a : Answer} {r : ℕ} {run next kept : List ℕ} → (a ≡ d .given .answer) × ((next ≡ d .given .table) × (kept ≡ d .index)) → Put a answer r run
+      → TellsIndexed (told-indexed d answer out table index) r run next kept
+  unfolding told-indexed
+  tells-indexed e w =
+      let q = tells-table (d .given) answer out table room (e .0, e .1 .0) w in
+      (q .0, (q .1 .0, (q .1 .1, rw (le-ltb (length answer) answer-words room) (e .1 .1))))
+
+-- ---- an index that is written: the table is not lent for writing
+
+abbrev pub TellsWritten : ToldIndexed → ℕ → List ℕ → List ℕ → Type 0
+TellsWritten t r answer index = (r ≡ t .told .returned) × ((answer ≡ t .told .answer) × (index ≡ t .index))
+
+module _ (table index answer : List ℕ) where
+  pub silent-written : length answer < answer-words → TellsWritten (told-indexed (written table index) answer [] table index) no-room answer index
+  silent-written short = let w = silent-indexed (written table index) answer [] table index short in (w .0, (w .1 .0, w .1 .1 .1))
+
+  pub tells-written : answer-words ≤ length answer → {a : Answer} {r : ℕ} {run kept : List ℕ} → (a ≡ written table index .given .answer) × (kept ≡ written table index .index) → Put a answer r run
+      → TellsWritten (told-indexed (written table index) answer [] table index) r run kept
+  tells-written room e w = let q = tells-indexed (written table index) answer [] table index room (e .0, (refl, e .1)) w in (q .0, (q .1 .0, q .1 .1 .1))
 
 -- ---- the words of an answer are stored
 

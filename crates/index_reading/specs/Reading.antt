@@ -1,18 +1,18 @@
 -- Reading by pid in the index of a sound table: where the rows of the pid stand, and which answer is given. Assumes nothing.
 use mathlib.Core.Path.{_≡_, sym, ap, _∙_, subst}
-use mathlib.Core.Bool.{true, false}
+use mathlib.Core.Bool.{false}
 use mathlib.Core.List.{List, _++_, append-assoc}
 use Prim.Native.Nat.{ℕ, _+_, _-_, _*_, _≤_, _<_}
 use native.Mathlib.Omega.{arith}
 use lib.Dec.{leb, eqb}
-use lib.ListN.{length, take, drop, replicate, length-append, length-drop, take-append-drop}
+use lib.ListN.{length, take, drop, length-drop, take-append-drop}
 use lib.Seq.{drop-append-le, length-take-le}
 use borrow.Author.Tests.{eq-eqb, le-leb, lt-leb, lt-ltb, le-ltb}
 use Rattle.entries.specs.Entries.{half-word, host}
 use Rattle.answers.specs.Answers.{answer-of}
 use Rattle.answers.specs.declared.Value.the-variants.{Listed}
 use Rattle.answers.specs.declared.Reason.the-variants.{Done, NodeUnknown, RunShort}
-use Rattle.semantics.specs.Sizes.{group-names, names-per-group, table-words, row-words, index-words}
+use Rattle.semantics.specs.Sizes.{group-names, names-per-group, table-words, row-words}
 use Rattle.semantics.specs.Table.{state-of}
 use Rattle.semantics.specs.Test.{sound}
 use Rattle.semantics.specs.TestLaws.{same-iff}
@@ -21,16 +21,15 @@ use Rattle.semantics.specs.WordsOfState.{size-is}
 use Rattle.semantics.specs.FirstReason.{Test, first}
 use Rattle.semantics.specs.Agree.{test-regular, test-laid}
 use Rattle.semantics.specs.Call.{refused}
-use Rattle.indexes.specs.Index.{Row, key-of, pid-of, walk, sorted, flat, keep, named, index-of, index-of-table, names-of}
+use Rattle.indexes.specs.Index.{Row, key-of, pid-of, walk, sorted, flat, keep, named, index-of-table, names-of}
 use Rattle.indexes.specs.Ascending.{rank}
-use Rattle.indexes.specs.Sorting.{length-sorted, rank-le, sorted-ascending, pid-ranks, keep-pid}
+use Rattle.indexes.specs.Sorting.{rank-le, pid-ranks, keep-pid}
 use Rattle.indexes.specs.Flat.{length-flat, flat-append, flat-drop, length-named, read-rows, read-rows-flat}
 use Rattle.indexes.specs.WalkLaws.{walk-small-sorted}
-use Rattle.indexes.specs.WalkWords.{walk-fits, walk-distinct-from}
 use Rattle.indexes.specs.IndexCalls.{no-index, names-in, read}
-use Rattle.index_rows.specs.Filled.{Front, Fills}
+use Rattle.index_rows.specs.Filled.{Front}
 use Rattle.index_rows.specs.Search.{in-front}
-use Rattle.index_rows.specs.Moving.{fills}
+use Rattle.index_rows.specs.Paired.{Paired, index-fills, rows-fit}
 
 -- the rows of a run read from one place up to another
 rows-between : {count : ℕ} {xs : List Row} {run : List ℕ} → Front count xs run → (from many : ℕ) → from + many ≤ count
@@ -44,21 +43,6 @@ rows-between {count} {xs} {run} f from many h =
     ∙ drop-append-le (row-words * from) (flat xs) z (omega (arith, length-flat xs, f .many))
     ∙ rw (flat-drop from xs, ← append-assoc (flat (take many ys)) (flat (drop many ys)) z, ← flat-append (take many ys) (drop many ys), take-append-drop many ys) in
     rw is (subst (λ (n : ℕ). read-rows n (flat (take many ys) ++ (flat (drop many ys) ++ z)) ≡ take many ys) long (read-rows-flat (take many ys) (flat (drop many ys) ++ z)))
-
--- x is the index of the sound table t
-pub record Paired (t x : List ℕ) : Type 0 where
-  pub long : length t ≡ table-words names-per-group
-  pub ok : sound names-per-group t ≡ true
-  pub is : x ≡ index-of-table names-per-group t
-
--- it holds the rows of the table's names, ascending
-pub index-fills : {t x : List ℕ} → Paired t x → (count : ℕ) → count ≡ length (walk (state-of names-per-group t .groups))
-    → Fills count (sorted (walk (state-of names-per-group t .groups))) x
-unfolding index-of
-index-fills {t} {x} h count e =
-    let ws = walk (state-of names-per-group t .groups) in
-    fills (index-words names-per-group) count (sorted ws) x (length-sorted ws ∙ sym e) (omega (arith, walk-fits names-per-group t (h .ok) 0))
-    (sorted-ascending ws (walk-distinct-from names-per-group t (h .ok) 0)) (h .is)
 
 -- what two ranks say where x has count rows: the names of the pid p are read from the one up to the other
 pub record Ranked (t x : List ℕ) (p count from to : ℕ) : Type 0 where
@@ -77,12 +61,6 @@ module _ {t x : List ℕ} (h : Paired t x) where
 
   -- ---- the rows
 
-  pub rows-fit : (count : ℕ) → count ≡ length (walk (state-of names-per-group t .groups)) → row-words * count ≤ length x
-  rows-fit count e =
-      let f = index-fills h count e in
-      let xs = sorted (walk (state-of names-per-group t .groups)) in
-      omega (arith, ap length (f .words), length-append (flat xs) (replicate (length x - length (flat xs)) 0), length-flat xs, f .many)
-
   pub ranked : (count : ℕ) → count ≡ length (walk (state-of names-per-group t .groups)) → (p from to low high : ℕ)
       → ((ys : List Row) → Front count ys x → from ≡ rank low ys) → ((ys : List Row) → Front count ys x → to ≡ rank high ys)
       → low ≡ key-of p 0 → high ≡ key-of p group-names → Ranked t x p count from to
@@ -99,7 +77,7 @@ module _ {t x : List ℕ} (h : Paired t x) where
       record {
         rise = rise;
         high = last;
-        fits = rows-fit count e;
+        fits = rows-fit h count e;
         names = ap named (rows-between f from (to - from) (omega arith) ∙ sym own);
         words =
             rw own
@@ -110,7 +88,7 @@ module _ {t x : List ℕ} (h : Paired t x) where
 
   -- no test of table and index holds
   passed : (ts : List Test) → first (no-index t x ++ ts) ≡ first ts
-  passed ts = rw (eq-eqb (length t) (table-words names-per-group) (h .long), h .ok, same-iff x (index-of-table names-per-group t) .1 (h .is))
+  passed ts = rw (eq-eqb (length t) (table-words names-per-group) (test-regular names-per-group t (h .ok) .2), h .ok, same-iff x (index-of-table names-per-group t) .1 (h .is))
 
   module _ (room p : ℕ) where
     pub read-unknown : size-of t ≤ host p → read room p t x ≡ refused NodeUnknown t

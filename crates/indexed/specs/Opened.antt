@@ -16,7 +16,7 @@ use Rattle.answers.specs.declared.Answer.{Answer}
 use Rattle.answers.specs.declared.Value.the-variants.{Ok}
 use Rattle.answers.specs.declared.Reason.{Reason}
 use Rattle.answers.specs.declared.Reason.the-variants.{Done, TableLength, RosterSize, NodeUnknown, IndexWrong}
-use Rattle.indexes.specs.IndexCalls.{Indexed, left, opened}
+use Rattle.indexes.specs.IndexCalls.{left, opened}
 
 module _ (N hidden : ℕ) (t x : List ℕ) where
   -- an index of the right length: it is the opening, and the index becomes zero where that is done

@@ -6,7 +6,7 @@ use Prim.Native.Nat.{ℕ}
 use native.Mathlib.Omega.{arith}
 use lib.Dec.{eqb}
 use lib.ListN.{length}
-use borrow.Author.Tests.{eq-eqb, ne-eqb, eqb-true}
+use borrow.Author.Tests.{eq-eqb, ne-eqb}
 use Rattle.answers.specs.Answers.{number, refuses, answer-of}
 use Rattle.commands.specs.declared.Command.{Command}
 use Rattle.semantics.specs.Sizes.{names-per-group, table-words, index-words}
@@ -22,7 +22,7 @@ use Rattle.answers.specs.declared.Value.the-variants.{Ok, Error}
 use Rattle.answers.specs.declared.Reason.{Reason}
 use Rattle.answers.specs.declared.Reason.the-variants.{Done, TableLength, Unsound, IndexWrong}
 use Rattle.indexes.specs.Index.{index-of-table}
-use Rattle.indexing.specs.Kept.{index-long}
+use Rattle.index_rows.specs.Paired.{index-long}
 use Rattle.indexes.specs.IndexCalls.{Indexed, left, beside, no-table, no-index, indexed, written, read}
 
 -- ---- the first of some tests, by what they say
@@ -120,7 +120,7 @@ module _ (t x : List ℕ) where
   pub index-short : first (no-table t) ≡ Done → (length x ≡ index-words names-per-group → ⊥) → same x (index-of-table names-per-group t) ≡ false
   index-short e n =
       unless (same x (index-of-table names-per-group t)) (λ h.
-      n (index-long t x (table-sound t e .1) (same-iff x (index-of-table names-per-group t) .0 h)))
+      n (index-long (record { ok = table-sound t e .1; is = same-iff x (index-of-table names-per-group t) .0 h })))
 
   -- runs without a reason are a sound table and its index
   pub index-there : {r : Reason} → r ≡ first (no-index t x) → r ≡ Done

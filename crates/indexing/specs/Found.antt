@@ -1,17 +1,15 @@
 -- What is found of the s_group of a name and its names, from the place of the s_group. Assumes nothing.
 use mathlib.Core.Path.{_≡_, refl, sym, ap, _∙_}
-use mathlib.Core.Bool.{true, false, cond}
+use mathlib.Core.Bool.{true}
 use mathlib.Core.Option.{Option, none, some}
 use mathlib.Core.List.{List}
 use Prim.Native.Nat.{ℕ, _<_}
 use native.Mathlib.Omega.{arith}
-use lib.Dec.{eqb}
-use borrow.Author.Tests.{eq-eqb, ne-eqb}
+use borrow.Author.Tests.{ne-eqb}
 use Rattle.nodes.specs.Sets.{inter, diff}
-use Rattle.entries.specs.Entries.{Entry, lookup, rank}
+use Rattle.entries.specs.Entries.{lookup, rank}
 use Rattle.entries.specs.Raw.{answer-at}
 use Rattle.entries.specs.declared.Found.{Found}
-use Rattle.entries.specs.declared.Found.the-variants.{At, Absent, Unfit}
 use Rattle.semantics.specs.Sizes.{group-limit, names-per-group}
 use Rattle.semantics.specs.State.{Group, State, find}
 use Rattle.semantics.specs.Test.{sound}

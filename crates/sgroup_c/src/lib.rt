@@ -1,4 +1,6 @@
 // The library for C and Rust: opening, the test and the commands, with numbers for their answers. A run is passed as a pointer and a length.
+mod with_index;
+
 ghost use mathlib.Core.Path.{_≡_};
 ghost use mathlib.Core.List.{[]};
 ghost use Rattle.semantics.specs.Sizes.{names-per-group};

@@ -98,7 +98,8 @@ pub fn refused(returned: u32) -> bool {
         .all(|reason| reason.number() != returned)
 }
 
-fn different_word(run: &str, ours: &[u64], theirs: &[u64]) -> Option<String> {
+/// The first word in which two runs differ.
+pub fn different_word(run: &str, ours: &[u64], theirs: &[u64]) -> Option<String> {
     let place = (0..ours.len()).find(|i| ours[*i] != theirs[*i])?;
     Some(format!(
         "{run} word {place} is {}, the model's {}",

@@ -42,7 +42,7 @@ impl Walk {
         let mut cases = vec![(Kind::Sound, self.case(&request, table.clone()))];
         let (kind, words) = match self.prng.below(8) {
             0 => (Kind::Random, random_words(&mut self.prng)),
-            1 => (Kind::OtherLength, self.other_length(&table)),
+            1 => (Kind::OtherLength, other_length(&mut self.prng, &table)),
             _ => (Kind::Mutated, mutated(&table, &mut self.prng)),
         };
         cases.push((kind, self.case(&request, words)));
@@ -51,20 +51,15 @@ impl Walk {
 
     fn case(&mut self, request: &Request, table: Vec<u64>) -> Case {
         let out_len = self.out_length(request, &table);
-        let answer_len = match self.prng.below(24) {
-            0 => self.prng.below(ANSWER_WORDS as u64),
-            1..=4 => ANSWER_WORDS as u64 + self.prng.below(5),
-            _ => ANSWER_WORDS as u64,
-        };
+        let answer_len = answer_length(&mut self.prng);
         Case {
             request: request.clone(),
             table,
-            out: self.words(out_len as u64),
-            answer: self.words(answer_len),
+            out: random_run(&mut self.prng, out_len),
+            answer: random_run(&mut self.prng, answer_len),
         }
     }
 
-    /// For the lists: as long as the list, one shorter, longer, or empty.
     fn out_length(&mut self, request: &Request, table: &[u64]) -> usize {
         let lists = matches!(
             request,
@@ -77,29 +72,45 @@ impl Walk {
             return 0;
         }
         let length = outcome(table, request, usize::MAX).list.len();
-        match self.prng.below(6) {
-            0 | 1 => length,
-            2 => length.saturating_sub(1),
-            3 => 0,
-            4 => self.prng.below(length as u64 + 1) as usize,
-            _ => length + 1 + self.prng.below(70) as usize,
-        }
+        list_room(&mut self.prng, length)
     }
+}
 
-    fn other_length(&mut self, table: &[u64]) -> Vec<u64> {
-        let length = match self.prng.below(4) {
-            0 => WORDS - 1,
-            1 => WORDS + 1,
-            2 => self.prng.below(8) as usize,
-            _ => self.prng.below(2 * WORDS as u64) as usize,
-        };
-        let length = if length == WORDS { WORDS + 2 } else { length };
-        let mut words = table.to_vec();
-        words.resize(length, 0);
-        words
+/// A length for the answer run: mostly as long as an answer, now and then longer or too short.
+pub fn answer_length(prng: &mut Prng) -> usize {
+    match prng.below(24) {
+        0 => prng.below(ANSWER_WORDS as u64) as usize,
+        1..=4 => ANSWER_WORDS + prng.below(5) as usize,
+        _ => ANSWER_WORDS,
     }
+}
 
-    fn words(&mut self, length: u64) -> Vec<u64> {
-        (0..length).map(|_| self.prng.word()).collect()
+/// A length for the run of a list: as long as the list, one shorter, longer, or empty.
+pub fn list_room(prng: &mut Prng, length: usize) -> usize {
+    match prng.below(6) {
+        0 | 1 => length,
+        2 => length.saturating_sub(1),
+        3 => 0,
+        4 => prng.below(length as u64 + 1) as usize,
+        _ => length + 1 + prng.below(70) as usize,
     }
+}
+
+/// The table cut off or with zeros behind it.
+pub fn other_length(prng: &mut Prng, table: &[u64]) -> Vec<u64> {
+    let length = match prng.below(4) {
+        0 => WORDS - 1,
+        1 => WORDS + 1,
+        2 => prng.below(8) as usize,
+        _ => prng.below(2 * WORDS as u64) as usize,
+    };
+    let length = if length == WORDS { WORDS + 2 } else { length };
+    let mut words = table.to_vec();
+    words.resize(length, 0);
+    words
+}
+
+/// So many random words.
+pub fn random_run(prng: &mut Prng, length: usize) -> Vec<u64> {
+    (0..length).map(|_| prng.word()).collect()
 }

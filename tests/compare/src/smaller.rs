@@ -92,24 +92,36 @@ fn zeroed(best: &mut Case, fails: Fails) {
 
 /// Lowers each number of the request; of a set, takes nodes out and moves the rest down.
 fn smaller_numbers(best: &mut Case, fails: Fails) {
-    for (place, (number, width)) in numbers(&best.request).into_iter().enumerate() {
-        let others = match width {
-            Width::Number32 => lower_numbers(number),
-            Width::Set64 => smaller_sets(number),
-        };
-        for other in others {
-            let taken = attempt(best, fails, |case| {
-                case.request = with_number(&case.request, place, other);
-            });
-            if taken {
+    for place in 0..numbers(&best.request).len() {
+        for other in lower_at(&best.request, place) {
+            if attempt(best, fails, |case| case.request = other.clone()) {
                 break;
             }
         }
     }
 }
 
+/// The requests with one number lower, or one set smaller.
+pub fn lower_requests(request: &Request) -> Vec<Request> {
+    let places = 0..numbers(request).len();
+    places.flat_map(|place| lower_at(request, place)).collect()
+}
+
+/// The same at one place of `numbers`.
+fn lower_at(request: &Request, place: usize) -> Vec<Request> {
+    let (number, width) = numbers(request)[place];
+    let others = match width {
+        Width::Number32 => lower_numbers(number),
+        Width::Set64 => smaller_sets(number),
+    };
+    let lower = others.into_iter();
+    lower
+        .map(|other| with_number(request, place, other))
+        .collect()
+}
+
 /// Zero, then ever closer to the number from below.
-fn lower_numbers(number: u64) -> Vec<u64> {
+pub fn lower_numbers(number: u64) -> Vec<u64> {
     let steps = (0..u64::BITS).map(|k| number >> k);
     steps
         .take_while(|step| *step > 0)
@@ -161,6 +173,7 @@ fn smaller_runs(best: &mut Case, fails: Fails) {
     while attempt(best, fails, |case| shorten(&mut case.answer)) {}
 }
 
-fn shorten(run: &mut Vec<u64>) {
+/// The run without its last word.
+pub fn shorten(run: &mut Vec<u64>) {
     run.pop();
 }

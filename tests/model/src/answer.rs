@@ -4,7 +4,7 @@
 use crate::state::{word_of, NodeSet};
 use std::fmt;
 
-/// Why an answer is as it is; the numbers are 01's, and the order is theirs.
+/// Why an answer is as it is; the numbers are those of 01 and 02.
 #[derive(Clone, Copy, Debug, PartialEq, Eq, PartialOrd, Ord)]
 pub enum Reason {
     MainCase = 0,
@@ -29,13 +29,26 @@ pub enum Reason {
     Duplicates = 19,
     AtomNotInBook = 20,
     HostOutside = 21,
+    IndexMismatch = 22,
 }
 
 impl Reason {
     /// The reasons that are no refusal: 21 stands beside a pid in the place of 0.
     pub const GRANTED: [Reason; 2] = [Reason::MainCase, Reason::HostOutside];
 
-    /// 01's number for this reason.
+    /// The refusals in the order in which they are given when several apply: that
+    /// of their numbers, save where 02 states a place.
+    #[rustfmt::skip]
+    pub const ORDER: [Reason; 21] = [
+        Reason::RunLength, Reason::RosterSize, Reason::Unsound, Reason::IndexMismatch,
+        Reason::CallerOffRoster, Reason::GroupNameRange, Reason::ProcessNameZero,
+        Reason::NodeOffRoster, Reason::NotLaunchFile, Reason::Duplicates, Reason::AtomNotInBook,
+        Reason::NoSuchGroup, Reason::NotMember, Reason::NameHeld, Reason::PidHeld,
+        Reason::NameAbsent, Reason::NamespaceFull, Reason::CallerNotInSet, Reason::GroupNameInUse,
+        Reason::GroupsFull, Reason::ShortRun,
+    ];
+
+    /// The number of this reason.
     pub fn number(self) -> u32 {
         self as u32
     }
@@ -48,7 +61,7 @@ impl Reason {
     /// Whether a call refused for this reason writes nothing at all. Under the
     /// other refusals a remote lookup still makes its first connection.
     pub fn writes_nothing(self) -> bool {
-        matches!(self.number(), 1..=7 | 17..=20)
+        matches!(self.number(), 1..=7 | 17..=20 | 22)
     }
 }
 

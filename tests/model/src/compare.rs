@@ -75,7 +75,8 @@ fn on_table(words: &[u64], request: &Request, room: usize) -> (Answer, Option<St
     }
 }
 
-fn in_numbers(answer: &Answer, table: Vec<u64>) -> Outcome {
+/// An answer in numbers, beside the words of the table after it.
+pub fn in_numbers(answer: &Answer, table: Vec<u64>) -> Outcome {
     let fields = answer.value.fields();
     let field = |i: usize| fields.get(i).copied().unwrap_or(0);
     let (first, second, list) = match &answer.value {

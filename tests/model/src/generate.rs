@@ -104,6 +104,13 @@ impl Generator {
         }
     }
 
+    /// The same on this state.
+    pub fn on(seed: u64, state: State) -> Generator {
+        let mut generator = Generator::new(seed);
+        generator.session.state = Some(state);
+        generator
+    }
+
     /// The state of the run so far; opens one if there is none.
     pub fn opened_state(&mut self) -> State {
         while self.session.state.is_none() {
@@ -137,6 +144,11 @@ impl Generator {
         };
         self.session.answer(&request);
         request
+    }
+
+    /// Takes this request into account, as if it were the run's own.
+    pub fn take(&mut self, request: &Request) {
+        self.session.answer(request);
     }
 
     fn malformed_line(&mut self) -> Vec<u8> {
@@ -465,6 +477,7 @@ impl Generator {
         }
     }
 
+    /// A pid of the s_group, of any s_group, or another.
     fn pid(&mut self, s: u32) -> u32 {
         if self.odd() {
             return self.prng.word() as u32;
@@ -472,6 +485,11 @@ impl Generator {
         let names = self.names_in(s);
         if !names.is_empty() && self.prng.once_in(10) {
             return self.prng.pick(&names).1;
+        }
+        let others = self.named_groups();
+        if !others.is_empty() && self.prng.once_in(10) {
+            let other = self.prng.pick(&others);
+            return self.prng.pick(&self.names_in(other)).1;
         }
         let inside = match self.prng.below(8) {
             0 => self.prng.pick(&[0, 1, PIDS_PER_HOST - 1]),

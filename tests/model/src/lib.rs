@@ -11,6 +11,9 @@
 //! - `rules`: the opening and the commands, as steps on the state.
 //! - `removal`: what a removal does to names, in kinds.
 //! - `stranger`: what a lookup finds of the host of a pid, in kinds.
+//! - `index`: the index beside the table, and every call with one.
+//! - `index_change`: what a call does to the entries of an index, in kinds.
+//! - `index_fault`: indexes that are mostly wrong, in kinds.
 //! - `table`: the 1,220 words of a state, and the state of such words.
 //! - `sound`: soundness, clause by clause, over the words.
 //! - `script`: a script's bytes in, the printed bytes out.
@@ -19,13 +22,17 @@
 //!   being one.
 //! - `launch`: a launch: the name book, the groups kept, the table.
 //! - `launch_gen`, `launch_list`: random launches, and a list of them in files.
-//! - `prng`, `generate`, `malformed`, `mutate`: random scripts and tables.
+//! - `prng`, `generate`, `malformed`, `mutate`, `crowd`: random scripts and tables.
 //! - `shrink`: makes a failing script shorter and keeps it as a file.
 
 pub mod answer;
 pub mod command;
 pub mod compare;
+pub mod crowd;
 pub mod generate;
+pub mod index;
+pub mod index_change;
+pub mod index_fault;
 pub mod launch;
 pub mod launch_file;
 pub mod launch_gen;

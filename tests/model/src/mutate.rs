@@ -2,6 +2,7 @@
 //! random words.
 
 use crate::prng::Prng;
+use crate::state::MOST_GROUPS;
 use crate::table::{
     BODIES, BODY, CONNECTIONS, CONTENTS, FREE_GROUPS, GROUP_COUNT, MEMBERS, ROSTER_SIZE, WORDS,
 };
@@ -17,9 +18,9 @@ pub fn mutated(words: &[u64], prng: &mut Prng) -> Vec<u64> {
 /// A place in any part of the table, the used parts more often.
 fn some_place(words: &[u64], prng: &mut Prng) -> usize {
     let size = words[ROSTER_SIZE].clamp(1, 64);
-    let groups = words[GROUP_COUNT].clamp(1, 32);
+    let groups = words[GROUP_COUNT].clamp(1, MOST_GROUPS as u64);
     let group = prng.below(groups) as usize;
-    let names = (words[CONTENTS + group] >> 16).clamp(1, 32);
+    let names = (words[CONTENTS + group] >> 16).clamp(1, BODY as u64);
     let place = match prng.below(12) {
         0 => prng.below(4) as usize,
         1..=2 => CONTENTS + group,

@@ -1,5 +1,6 @@
 //! The opening and the fifteen commands as steps on the state. A call's reason
-//! is found by collecting every reason that applies and taking the least.
+//! is found by collecting every reason that applies and taking the first in
+//! their order.
 //!
 //! The few rules that can be misread are methods of `Rules`. Their given bodies
 //! are those of documents 01 and 02; a test may replace one to show that the
@@ -7,6 +8,7 @@
 
 use crate::answer::{Answer, Reason, Value};
 use crate::command::{Command, Form};
+use crate::index::{self, Entry};
 use crate::state::{
     host_of, word_of, NodeSet, SGroup, State, LARGEST_GROUP_NAME, LARGEST_ROSTER, MOST_GROUPS,
     MOST_NAMES,
@@ -17,7 +19,8 @@ use std::collections::{BTreeMap, BTreeSet};
 pub trait Rules {
     /// The reason given when these apply; none stands for the main case.
     fn choose(&self, applying: &BTreeSet<Reason>) -> Option<Reason> {
-        applying.first().copied()
+        let mut order = Reason::ORDER.into_iter();
+        order.find(|reason| applying.contains(reason))
     }
 
     /// Whether a remote lookup that finds nothing leaves its connection.
@@ -83,6 +86,40 @@ pub trait Rules {
         group
             .names
             .retain(|_, pid| !leaving.contains(&host_of(*pid)));
+    }
+
+    /// The entries of an index, in their order: what a walk of the table gives.
+    fn entries(&self, state: &State) -> Vec<Entry> {
+        let mut entries = index::walk(state);
+        entries.sort_by_key(Entry::first_word);
+        entries
+    }
+
+    /// Whether this is the index of a table of this state.
+    fn matches(&self, state: &State, index: &[u64]) -> bool {
+        index == index::words_of(&self.entries(state))
+    }
+
+    /// Whether an opening takes this index. The words of the table before it
+    /// don't matter, nor do those of the index.
+    fn opening_takes(&self, index: &[u64]) -> bool {
+        index.len() == index::WORDS
+    }
+
+    /// The index after a call that left this state, given the index before it.
+    fn index_after(&self, _before: &[u64], after: &State) -> Vec<u64> {
+        index::words_of(&self.entries(after))
+    }
+
+    /// What reading by pid lists of the entries of a pid.
+    fn list(&self, entries: &[Entry]) -> Vec<u64> {
+        let pair = |entry: &Entry| [u64::from(entry.s), u64::from(entry.n)];
+        entries.iter().flat_map(pair).collect()
+    }
+
+    /// What reading by pid answers with this list.
+    fn read(&self, list: Vec<u64>) -> Answer {
+        Answer::main_case(Value::List(list))
     }
 }
 
@@ -153,8 +190,8 @@ pub fn unite(state: &mut State, parts: &[NodeSet]) {
     state.free_groups.insert(whole);
 }
 
-/// The opening: its answer, and the new state where it is accepted.
-pub fn open(n: u32, hidden: &NodeSet) -> (Answer, Option<State>) {
+/// Every reason from 2 on for which an opening is refused.
+pub fn opening_applying(n: u32, hidden: &NodeSet) -> BTreeSet<Reason> {
     let mut applying = BTreeSet::new();
     if !(1..=LARGEST_ROSTER).contains(&n) {
         applying.insert(Reason::RosterSize);
@@ -162,8 +199,13 @@ pub fn open(n: u32, hidden: &NodeSet) -> (Answer, Option<State>) {
     if hidden.iter().any(|node| *node >= n) {
         applying.insert(Reason::NodeOffRoster);
     }
-    match applying.first() {
-        Some(reason) => (Answer::error(*reason), None),
+    applying
+}
+
+/// The opening: its answer, and the new state where it is accepted.
+pub fn open(n: u32, hidden: &NodeSet) -> (Answer, Option<State>) {
+    match Law.choose(&opening_applying(n, hidden)) {
+        Some(reason) => (Answer::error(reason), None),
         None => (Answer::main_case(Value::Ok), Some(State::opened(n, hidden))),
     }
 }
@@ -240,6 +282,7 @@ impl Asked<'_> {
             Reason::ShortRun => self.list_length() > self.room,
             Reason::MainCase | Reason::HostOutside => false,
             Reason::RunLength | Reason::RosterSize | Reason::Unsound => false,
+            Reason::IndexMismatch => false,
             Reason::NotLaunchFile | Reason::Duplicates | Reason::AtomNotInBook => false,
         }
     }

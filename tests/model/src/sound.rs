@@ -3,6 +3,7 @@
 //! when the roster size or the number of groups is out of range do the others
 //! have nothing to speak of.
 
+use crate::state::MOST_GROUPS;
 use crate::table::{
     BODIES, BODY, CONNECTIONS, CONTENTS, FREE_GROUPS, GROUP_COUNT, HIDDEN, MEMBERS, ROSTER_SIZE,
     WORDS, ZERO,
@@ -123,7 +124,10 @@ pub fn failing_clauses(words: &[u64]) -> BTreeSet<Clause> {
             (1..=64).contains(&words[ROSTER_SIZE]),
             Clause::RosterSizeInRange,
         ),
-        (words[GROUP_COUNT] <= 32, Clause::GroupCountInRange),
+        (
+            words[GROUP_COUNT] <= MOST_GROUPS as u64,
+            Clause::GroupCountInRange,
+        ),
     ];
     let out_of_range = failing(&ranges);
     if !out_of_range.is_empty() {
@@ -198,7 +202,7 @@ impl<'a> Parts<'a> {
         &self.words[start..start + BODY]
     }
 
-    /// The used words of a body; a count beyond 32 uses all of them.
+    /// The used words of a body; a count beyond the limit uses all of them.
     fn entries(&self, place: usize) -> &'a [u64] {
         let used = (self.name_count(place) as usize).min(BODY);
         &self.body(place)[..used]
@@ -243,7 +247,7 @@ impl<'a> Parts<'a> {
                 Clause::GroupNameInRange,
             ),
             (
-                (0..self.groups).all(|place| self.name_count(place) <= 32),
+                (0..self.groups).all(|place| self.name_count(place) <= BODY as u64),
                 Clause::NameCountInRange,
             ),
             (

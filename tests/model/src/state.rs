@@ -157,7 +157,7 @@ impl State {
 
     fn s_group_fault(&self) -> Option<String> {
         if self.s_groups.len() > MOST_GROUPS {
-            return Some("more than 32 s_groups".to_string());
+            return Some("too many s_groups".to_string());
         }
         self.s_groups.iter().find_map(|(name, group)| {
             let wrong = self.one_s_group_fault(*name, group)?;
@@ -182,7 +182,7 @@ impl State {
                 "member off the roster",
             ),
             (all_linked, "members not all connected"),
-            (group.names.len() <= MOST_NAMES, "more than 32 names"),
+            (group.names.len() <= MOST_NAMES, "too many names"),
             (!group.names.contains_key(&0), "process name zero"),
             (pids.len() == group.names.len(), "pids not distinct"),
             (

@@ -2,10 +2,11 @@
 //! words are sound is judged in `sound`.
 
 use crate::sound::{failing_clauses, Clause};
-use crate::state::{set_of, word_of, Node, NodeSet, NodeType, SGroup, State};
+use crate::state::{
+    set_of, word_of, Node, NodeSet, NodeType, SGroup, State, MOST_GROUPS, MOST_NAMES,
+};
 use std::collections::{BTreeMap, BTreeSet};
 
-pub const WORDS: usize = 1_220;
 pub const ROSTER_SIZE: usize = 0;
 pub const HIDDEN: usize = 1;
 pub const GROUP_COUNT: usize = 2;
@@ -16,7 +17,8 @@ pub const CONNECTIONS: usize = 68;
 pub const FREE_GROUPS: usize = 132;
 pub const BODIES: usize = 196;
 /// Words in the body of one group.
-pub const BODY: usize = 32;
+pub const BODY: usize = MOST_NAMES;
+pub const WORDS: usize = BODIES + MOST_GROUPS * BODY;
 
 /// The words of a well formed state.
 pub fn words_of(state: &State) -> Vec<u64> {
@@ -61,8 +63,8 @@ pub fn read(words: &[u64]) -> Option<State> {
     let size = words[ROSTER_SIZE];
     let groups = words[GROUP_COUNT];
     let counts_fit = size <= 64
-        && groups <= 32
-        && (0..groups as usize).all(|place| words[CONTENTS + place] >> 16 <= 32);
+        && groups <= MOST_GROUPS as u64
+        && (0..groups as usize).all(|place| words[CONTENTS + place] >> 16 <= BODY as u64);
     if !counts_fit {
         return None;
     }

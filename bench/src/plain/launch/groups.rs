@@ -1,5 +1,6 @@
 //! The groups of a launch file, one for each name, and what is wrong with them.
 
+use super::super::sizes::GROUPS;
 use super::book::{Atom, Book};
 use std::collections::HashMap;
 
@@ -35,7 +36,7 @@ impl<'a> Groups<'a> {
             book,
             nodes,
             start,
-            all: Vec::with_capacity(32),
+            all: Vec::with_capacity(GROUPS),
             group: vec![0; book.lines()],
             strangers: HashMap::new(),
             others: Vec::new(),
@@ -125,7 +126,7 @@ impl<'a> Groups<'a> {
         if self.all.iter().any(|group| group.unequal && group.started) {
             return Err(19);
         }
-        let mut kept = Vec::with_capacity(32);
+        let mut kept = Vec::with_capacity(GROUPS);
         for group in self.all.iter().filter(|group| !group.unequal) {
             let line = group.name as usize;
             let known = (self.nodes..self.book.lines()).contains(&line);
@@ -134,7 +135,7 @@ impl<'a> Groups<'a> {
             }
             kept.push(((line - self.nodes + 1) as u32, group.set));
         }
-        if kept.len() > 32 {
+        if kept.len() > GROUPS {
             return Err(16);
         }
         Ok(kept)

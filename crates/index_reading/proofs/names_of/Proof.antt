@@ -5,7 +5,8 @@ use Prim.Native.Nat.{_*_, _≤_}
 use native.Mathlib.Omega.{arith}
 use lib.ListN.{length}
 use Rattle.semantics.specs.Sizes.{row-words}
-use Rattle.index_reading.specs.Reading.{Ranked, Paired, size-fits, rows-fit, ranked, read-unknown, read-short, read-listed}
+use Rattle.index_rows.specs.Paired.{Paired, rows-fit}
+use Rattle.index_reading.specs.Reading.{Ranked, size-fits, ranked, read-unknown, read-short, read-listed}
 use Rattle.index_reading.proofs.names_of.Statement.{statement}
 use Rattle.index_reading.proofs.names_of.Tie as tie
 
@@ -14,7 +15,7 @@ abbrev start : tie.After-names-total → tie.Start
 start c = c .before .before .before .before .before .before
 
 paired : (e : tie.Start) → Paired (e .args .t .now) (e .args .index .now)
-paired e = record { long = e .pre .0; ok = e .pre .1 .0; is = e .pre .1 .1 }
+paired e = record { ok = e .pre .1 .0; is = e .pre .1 .1 }
 
 -- the rows have room in the index
 fit : (c : tie.After-names-total) → row-words * c .names-total .result ≤ length (start c .args .index .now)

@@ -1,7 +1,6 @@
 -- `indexed::index_reason` meets its contract: the table's reason, then the length of the index and its test. Assumes nothing.
 use borrow.Author.Needs.{needs}
-use mathlib.Core.Path.{_≡_, sym, ap, _∙_}
-use mathlib.Core.Bool.{true, false}
+use mathlib.Core.Path.{_≡_, sym, _∙_}
 use Rattle.semantics.specs.FirstReason.{first}
 use Rattle.indexes.specs.IndexCalls.{no-table}
 use Rattle.answers.specs.declared.Reason.the-variants.{Done}

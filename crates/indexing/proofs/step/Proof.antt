@@ -1,8 +1,13 @@
 -- `indexing::step` meets its contract: the step gives answer, table and list; where it is done the rows are updated, and else they stay. Assumes nothing.
 use borrow.Author.Needs.{needs}
-use Rattle.indexing.specs.Kept.{names-fit, index-done, index-kept}
+use Rattle.index_rows.specs.Paired.{Paired, rows-fit}
+use Rattle.indexing.specs.Kept.{index-done, index-kept}
 use Rattle.indexing.proofs.step.Statement.{statement}
 use Rattle.indexing.proofs.step.Tie as tie
+
+-- table and index, as they came
+paired : (e : tie.Start) → Paired (e .args .t .now) (e .args .index .now)
+paired e = record { ok = e .pre .1 .0; is = e .pre .1 .1 }
 
 names-total-requires : tie.Need-names-total-requires
 names-total-requires c κs = search needs
@@ -21,7 +26,7 @@ update-requires c κs =
     let s = c .before .before .before .before .before .before .before in
     let n = s .before .before .before .before .before in
     let p = n .before .before .before .before .before in
-    rw (n .names-total .ensures) (names-fit (p .args .t .now) (p .args .index .now) (p .pre .1 .0) (p .pre .1 .1))
+    rows-fit (paired p) (n .names-total .result) (n .names-total .ensures)
 
 same-length : tie.Need-same-length
 same-length c = search needs
@@ -47,7 +52,7 @@ returns c =
         e .1 .0,
         (
           e .1 .1,
-          index-done (a .t .now) (a .index .now) (p .pre .1 .0) (p .pre .1 .1) _ (a .caller) (a .command) (u .update-of .ensures .1) (q .number .ensures) (e .0)
+          index-done (paired p) _ (a .caller) (a .command) (u .update-of .ensures .1) (q .number .ensures) (e .0)
               (d .before .before .if1 .taken) (n .names-total .ensures) (u .update-of .ensures .0) (d .update .ensures),
         ),
       ),
@@ -67,7 +72,7 @@ returns-2 c =
     let p = u .before .before .before .before .before .before .before in
     let a = p .args in
     let e = s .step .ensures in
-    (e .0, (e .1 .0, (e .1 .1, index-kept (a .t .now) (a .index .now) (p .pre .1 .0) (p .pre .1 .1) _ (a .caller) (a .command) (u .update-of .ensures .1) (q .number .ensures) (e .0) (c .if1 .left))))
+    (e .0, (e .1 .0, (e .1 .1, index-kept (paired p) _ (a .caller) (a .command) (u .update-of .ensures .1) (q .number .ensures) (e .0) (c .if1 .left))))
 
 pub step-spec : {M : Type 1} → statement M
 step-spec =

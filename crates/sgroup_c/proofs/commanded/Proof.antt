@@ -1,33 +1,12 @@
 -- `sgroup_c::commanded` meets its contract: with room for the answer it is the call's of the number's command, and without it nothing is called.
 -- Assumes nothing.
 use borrow.Author.Needs.{needs}
-use mathlib.Core.Path.{_≡_, sym, ap, _∙_}
-use mathlib.Core.Bool.{Bool, true, false, false≢true}
 use mathlib.Core.List.{[]}
-use Rattle.commands.specs.declared.Command.{Command}
-use Rattle.commands.specs.declared.Command.the-variants.{OwnNodes}
-use Rattle.forms.specs.declared.Formed.{Formed}
-use Rattle.forms.specs.declared.Formed.the-variants.{Is, Nothing}
 use Rattle.semantics.specs.Call.{call}
 use Rattle.answer_words.specs.Told.{silent-table, tells-table}
+use Rattle.sgroup_c.proofs.Formed.{one, none}
 use Rattle.sgroup_c.proofs.commanded.Statement.{statement}
 use Rattle.sgroup_c.proofs.commanded.Tie as tie
-
--- a number has one command
-
-abbrev formed : Formed → Bool
-formed (Is k) = true
-formed Nothing = false
-
-abbrev formed-command : Formed → Command
-formed-command (Is k) = k
-formed-command Nothing = OwnNodes
-
-one : {x y : Formed} {k l : Command} → x ≡ y → x ≡ Is k → y ≡ Is l → l ≡ k
-one e p q = ap formed-command (sym q ∙ sym e ∙ p)
-
-none : {x y : Formed} {l : Command} → x ≡ y → x ≡ Nothing → y ≡ Is l → ⊥
-none e p q = false≢true (ap formed (sym p ∙ e ∙ q))
 
 returns : tie.Need-returns
 returns c = λ command known.

@@ -3,9 +3,11 @@
 
 use model::answer::Answer;
 use model::command::Request;
+use model::compare::Outcome;
 use model::generate::{script, Generator};
+use model::index::{self, outcome_under, IndexRequest, ENTRY};
 use model::rules::{Law, Rules};
-use model::script::{parse, run, Session};
+use model::script::{parse, run, Session, ROOM};
 use model::shrink::{keep, shrunk};
 use model::state::State;
 use model::table::{words_of, WORDS};
@@ -110,6 +112,89 @@ pub fn table(words: &[(usize, u64)]) -> Vec<u64> {
         table[*place] = *word;
     }
     table
+}
+
+/// What the program would print for an outcome.
+pub fn printed_outcome(told: &Outcome) -> String {
+    let kinds = "ok true false error undefined pid group nodes list";
+    let kind = kinds.split(' ').nth(told.kind as usize - 1);
+    let fields = match told.kind {
+        6 => vec![told.first],
+        7 | 8 => vec![told.first, told.second],
+        9 => [&[told.first], told.list.as_slice()].concat(),
+        _ => Vec::new(),
+    };
+    let fields: String = fields.iter().map(|field| format!(" {field}")).collect();
+    format!("{}{fields} {}", kind.expect("nine kinds"), told.reason)
+}
+
+/// A table and an index beside it, held from call to call.
+pub struct Beside<'a> {
+    rules: &'a dyn Rules,
+    pub table: Vec<u64>,
+    pub index: Vec<u64>,
+}
+
+impl<'a> Beside<'a> {
+    /// A table and an index of zero words.
+    pub fn new(rules: &'a dyn Rules) -> Beside<'a> {
+        Beside {
+            rules,
+            table: vec![0; WORDS],
+            index: vec![0; index::WORDS],
+        }
+    }
+
+    /// The same after these lines, of which none may be refused.
+    pub fn after(rules: &'a dyn Rules, lines: &[&str]) -> Beside<'a> {
+        let mut beside = Beside::new(rules);
+        for line in lines {
+            let printed = beside.print(line);
+            assert!(printed.ends_with(" 0"), "{line}: {printed}");
+        }
+        beside
+    }
+
+    /// What a request prints, with an answer run of the program's length.
+    pub fn ask(&mut self, request: &IndexRequest) -> String {
+        let told = outcome_under(self.rules, &self.table, &self.index, request, ROOM);
+        self.table = told.outcome.table.clone();
+        self.index = told.index;
+        printed_outcome(&told.outcome)
+    }
+
+    /// What a line of a script prints with the index, `names_of P` or `index`.
+    pub fn print(&mut self, line: &str) -> String {
+        self.ask(&index_request(line))
+    }
+
+    /// Runs lines, each beside what it must print.
+    pub fn expect(&mut self, lines: &[(&str, &str)]) {
+        for (line, printed) in lines {
+            assert_eq!(self.print(line), *printed, "at {line:?}");
+        }
+    }
+
+    /// The used entries of the index: pid, s_group and name; the rest must be zero.
+    pub fn entries(&self) -> Vec<(u64, u64, u64)> {
+        let pairs: Vec<&[u64]> = self.index.chunks(ENTRY).collect();
+        let used = pairs.iter().filter(|pair| pair[0] != 0).count();
+        let unused = &pairs[used..];
+        assert!(unused.iter().all(|pair| pair.iter().all(|word| *word == 0)));
+        let entry = |pair: &&[u64]| (pair[0] >> 32, pair[0] & 0xFFFF_FFFF, pair[1]);
+        pairs[..used].iter().map(entry).collect()
+    }
+}
+
+/// A line of a script as a call with an index; or `names_of P`, or `index`.
+pub fn index_request(line: &str) -> IndexRequest {
+    match line.split_once(' ') {
+        None => IndexRequest::Write,
+        Some(("names_of", p)) => IndexRequest::NamesOf {
+            p: p.parse().expect("a pid"),
+        },
+        Some(_) => IndexRequest::Beside(request(line)),
+    }
 }
 
 /// One well formed line of a script: the request, its answer, and the state on

@@ -1,0 +1,406 @@
+//! Calls with an index beside the table. Both sides are held to the same answers and words on random calls; then the test of an index, each command with both
+//! tests, reading by pid and writing are timed, on tables that are not tested twice within some hundred thousand steps: a branch predictor learns even the thousand
+//! searches of a full table where it meets them again and again.
+
+use crate::agree::call_of;
+use crate::api::{PLAIN, PROVED};
+use crate::call::{self, Asked, Which};
+use crate::commands::{main_cases, roomy, BAR};
+use crate::index_api::{self, IndexApi};
+use crate::index_call::{call, outcome, Called, Lent};
+use crate::plain::index::write;
+use crate::plain::sizes::{Index, BODIES, BODY, CONTENTS, INDEX_WORDS};
+use crate::race::{best, race};
+use crate::strangers::STRANGER;
+use crate::tables::{table, Size, FULL, SMALL};
+use compare::index_case::Case;
+use compare::index_random::{Faults, Walk, STEPS};
+use model::index::IndexRequest;
+use model::prng::Prng;
+use std::cell::RefCell;
+use std::collections::BTreeMap;
+
+/// Walks of random calls on which both sides agree.
+const WALKS: u64 = 60;
+/// Tables of a row, each with a call.
+const POOL: usize = 64;
+/// Rounds of calls on a full table, and on a smaller one.
+const ROUNDS: usize = 100;
+const SMALL_ROUNDS: usize = 400;
+const PIDS_PER_HOST: u64 = 1 << 26;
+/// The reason of an index that is wrong.
+const MISMATCH: u32 = 22;
+
+/// As a store has it.
+const STORE: Size = Size {
+    nodes: 8,
+    groups: 2,
+    members: 4,
+    names: 8,
+};
+
+const SIDES: [&IndexApi; 2] = [&index_api::PROVED, &index_api::PLAIN];
+
+/// Which pids the names of a table have.
+#[derive(Clone, Copy)]
+enum Pids {
+    /// Any, in no order.
+    Scattered,
+    /// Any of one host, in no order.
+    OneHost,
+    /// Each in every s_group, and in no order.
+    Everywhere,
+}
+
+/// The pids of a pool of names; no two are equal.
+fn drawn(prng: &mut Prng, pids: Pids, nodes: u64, many: usize) -> Vec<u64> {
+    let mut all = Vec::new();
+    while all.len() < many {
+        let host = match pids {
+            Pids::OneHost => nodes / 2,
+            _ => prng.below(nodes),
+        };
+        let pid = host * PIDS_PER_HOST + prng.below(PIDS_PER_HOST);
+        if !all.contains(&pid) {
+            all.push(pid);
+        }
+    }
+    all
+}
+
+/// A sound table of this size with such pids; its s_groups have the names of `table`, or any.
+fn with_pids(prng: &mut Prng, size: Size, pids: Pids, any_names: bool) -> Vec<u64> {
+    let mut words = table(prng, size);
+    if any_names {
+        let mut names: Vec<u64> = (0..65_535).collect();
+        let mut chosen: Vec<u64> = (0..size.groups)
+            .map(|_| 1 + names.swap_remove(prng.below(names.len() as u64) as usize))
+            .collect();
+        chosen.sort_unstable();
+        for (contents, name) in words[CONTENTS..].iter_mut().zip(chosen) {
+            *contents = *contents >> 16 << 16 | name;
+        }
+    }
+    let many = size.groups * size.names;
+    let mut pool = match pids {
+        Pids::Everywhere => drawn(prng, pids, size.nodes, size.names),
+        _ => drawn(prng, pids, size.nodes, many),
+    };
+    for group in 0..size.groups {
+        let mut left = match pids {
+            Pids::Everywhere => pool.clone(),
+            _ => pool.split_off(pool.len() - size.names),
+        };
+        for word in &mut words[BODIES + BODY * group..][..size.names] {
+            let pid = left.swap_remove(prng.below(left.len() as u64) as usize);
+            *word = *word >> 32 << 32 | pid;
+        }
+    }
+    words
+}
+
+/// The index of a sound table.
+fn index_of(words: &[u64]) -> Vec<u64> {
+    let mut index: Box<Index> = Box::new([0; INDEX_WORDS]);
+    write(words.try_into().expect("the words of a table"), &mut index);
+    index.to_vec()
+}
+
+/// A table, its index, and a call.
+struct Turn {
+    table: Vec<u64>,
+    index: Vec<u64>,
+    asked: Asked,
+}
+
+impl Turn {
+    fn new(table: Vec<u64>, asked: Asked) -> Turn {
+        Turn {
+            index: index_of(&table),
+            table,
+            asked,
+        }
+    }
+
+    fn lent(&self) -> Lent {
+        Lent::new(&self.table, &self.index)
+    }
+}
+
+// ---- both sides are held to the same
+
+/// The call of a case, and its runs.
+fn call_of_case(case: &Case) -> (Called, Asked, Lent) {
+    let (called, asked) = match &case.request {
+        IndexRequest::Beside(request) => {
+            let (which, asked) = call_of(request);
+            (Called::Beside(which), asked)
+        }
+        IndexRequest::NamesOf { p } => {
+            let p = *p;
+            let asked = Asked {
+                p,
+                ..Asked::default()
+            };
+            (Called::NamesOf, asked)
+        }
+        IndexRequest::Write => (Called::Write, Asked::default()),
+    };
+    let lent = Lent {
+        table: case.table.clone(),
+        index: case.index.clone(),
+        out: case.out.clone(),
+        answer: case.answer.clone(),
+    };
+    (called, asked, lent)
+}
+
+/// How many calls there were, how many were done, and how many were refused for their index.
+#[derive(Default)]
+pub struct Agreed {
+    pub calls: u64,
+    pub done: u64,
+    pub mismatches: u64,
+}
+
+/// Holds both sides to the same answers and words on random calls with right and wrong indexes. At least one in ten is done, and one in ten has a wrong index.
+pub fn agree(seed: u64) -> Agreed {
+    let mut returned: BTreeMap<u32, u64> = BTreeMap::new();
+    let mut faults = Faults::default();
+    for k in 0..WALKS {
+        let mut walk = Walk::new(seed + k);
+        for _ in 0..STEPS {
+            for (_, case) in walk.step(&mut faults) {
+                let (called, asked, lent) = call_of_case(&case);
+                let [ours, theirs] = SIDES.map(|api| outcome(api, called, lent.clone(), &asked));
+                assert!(ours == theirs, "{case:?}");
+                *returned.entry(ours.0).or_default() += 1;
+            }
+        }
+    }
+    let many = |reason: u32| returned.get(&reason).copied().unwrap_or(0);
+    let agreed = Agreed {
+        calls: returned.values().sum(),
+        done: many(0) + many(STRANGER as u32),
+        mismatches: many(MISMATCH),
+    };
+    assert!(agreed.done.min(agreed.mismatches) > agreed.calls / 10);
+    agreed
+}
+
+// ---- times
+
+/// Nanoseconds a call: of the proved side and the plain one with an index, then of both without one.
+struct Nanos {
+    indexed: [f64; 2],
+    without: [f64; 2],
+}
+
+/// Times a call on each of the tables; beside it the command without an index, on the same tables. The time of an empty turn is subtracted.
+fn timed(called: Called, without: Which, turns: &[Turn]) -> Nanos {
+    for turn in turns {
+        let [ours, theirs] = SIDES.map(|api| outcome(api, called, turn.lent(), &turn.asked));
+        assert!(
+            ours == theirs && ours.0 != MISMATCH,
+            "{called:?} {:?}",
+            turn.asked
+        );
+    }
+    let first = &turns[0];
+    let lent = RefCell::new(first.lent());
+    let bare = RefCell::new(call::Lent::new(&first.table));
+    let rounds = match first.table[2] {
+        0..=8 => SMALL_ROUNDS,
+        _ => ROUNDS,
+    };
+    let times: [f64; 5] = race(
+        best,
+        rounds,
+        turns.len(),
+        |side, k| {
+            if side < 2 {
+                lent.borrow_mut().restore(&turns[k].table, &turns[k].index);
+            } else {
+                bare.borrow_mut().restore(&turns[k].table);
+            }
+        },
+        |side, k| {
+            let asked = &turns[k].asked;
+            match side {
+                0 | 1 => u64::from(call(SIDES[side], called, &mut lent.borrow_mut(), asked)),
+                2 | 3 => {
+                    let api = [&PROVED, &PLAIN][side - 2];
+                    let mut bare = bare.borrow_mut();
+                    call::calls(api, without, std::slice::from_mut(&mut bare), &[*asked])
+                }
+                _ => u64::from(asked.s),
+            }
+        },
+    );
+    let [a, b, c, d] = [0, 1, 2, 3].map(|side| (times[side] - times[4]) / turns.len() as f64);
+    Nanos {
+        indexed: [a, b],
+        without: [c, d],
+    }
+}
+
+/// One line: both sides, their ratio, and the proved call without an index beside the one with it.
+fn row(what: &str, [ours, theirs]: [f64; 2], without: Option<f64>) {
+    let ratio = ours / theirs;
+    let mark = if ratio > BAR { "  over the bar" } else { "" };
+    let without = without.map_or_else(String::new, |bare| {
+        format!(" {bare:>10.1} {:>7.2}", ours / bare)
+    });
+    println!("{what:<46} {ours:>10.1} {theirs:>10.1} {ratio:>7.2}{without}{mark}");
+}
+
+/// The line above rows; `without` where they have the call without an index.
+fn heading(what: &str, without: bool) {
+    let more = if without { "   no index   times" } else { "" };
+    println!(
+        "\n{what:<46} {:>10} {:>10} {:>7}{more}",
+        "proved ns", "plain ns", "ratio"
+    );
+}
+
+/// The tables on which tests, reading and writing are timed.
+const TABLES: [(&str, Size, Pids, bool); 6] = [
+    ("full", FULL, Pids::Scattered, false),
+    ("full, s_groups of any names", FULL, Pids::Scattered, true),
+    ("full, all pids of one host", FULL, Pids::OneHost, false),
+    (
+        "full, each pid in every s_group",
+        FULL,
+        Pids::Everywhere,
+        false,
+    ),
+    (
+        "8 nodes, 2 s_groups of 8 names",
+        STORE,
+        Pids::Scattered,
+        false,
+    ),
+    ("small", SMALL, Pids::Scattered, false),
+];
+
+/// Turns on tables of this kind, each with a pid for reading: one that is there, or one that nobody has.
+fn pool(prng: &mut Prng, (size, pids, any_names): (Size, Pids, bool), held: bool) -> Vec<Turn> {
+    let turn = |_| {
+        let words = with_pids(prng, size, pids, any_names);
+        let group = prng.below(size.groups as u64) as usize;
+        let name = words[BODIES + BODY * group + prng.below(size.names as u64) as usize];
+        let pids: Vec<u32> = words[BODIES..].iter().map(|word| *word as u32).collect();
+        let mut p = name as u32;
+        while !held && pids.contains(&p) {
+            p = (prng.below(size.nodes) * PIDS_PER_HOST + prng.below(PIDS_PER_HOST)) as u32;
+        }
+        let caller = prng.below(size.nodes) as u32;
+        let asked = Asked {
+            p,
+            caller,
+            ..Asked::default()
+        };
+        Turn::new(words, asked)
+    };
+    (0..POOL).map(turn).collect()
+}
+
+/// Every table of times.
+pub fn times(seed: u64) {
+    let mut prng = Prng::new(seed);
+    tests(&mut prng);
+    for (what, size) in [("full", FULL), ("small", SMALL)] {
+        heading(&format!("with an index, {what} table, both tests"), true);
+        for which in Which::COMMANDS {
+            commands(&mut prng, which, size);
+        }
+    }
+    reading(&mut prng);
+    writing(&mut prng);
+}
+
+/// No function gives the test of the index alone. It is timed as what reading by a pid that nobody has takes, less what own_nodes takes on the same table without
+/// an index: the one tests table and index and looks for the pid, the other tests the table and gathers some words.
+fn tests(prng: &mut Prng) {
+    heading("the test of the index", false);
+    for (what, size, pids, any_names) in TABLES {
+        let turns = pool(prng, (size, pids, any_names), false);
+        let nanos = timed(Called::NamesOf, Which::OwnNodes, &turns);
+        let alone = [0, 1].map(|side| nanos.indexed[side] - nanos.without[side]);
+        row(what, alone, None);
+    }
+}
+
+/// A command in its main case.
+fn commands(prng: &mut Prng, which: Which, size: Size) {
+    let grows = matches!(which, Which::RegisterName | Which::NewSGroup);
+    let size = if grows { roomy(size) } else { size };
+    let turn = |_| {
+        let words = with_pids(prng, size, Pids::Scattered, false);
+        let asked = main_cases(prng, which, &words, 1)[0];
+        Turn::new(words, asked)
+    };
+    let turns: Vec<Turn> = (0..POOL).map(turn).collect();
+    let nanos = timed(Called::Beside(which), which, &turns);
+    row(&format!("{which:?}"), nanos.indexed, Some(nanos.without[0]));
+}
+
+/// Reading by pid, both tests in it, on pids that are there and on others.
+fn reading(prng: &mut Prng) {
+    heading("reading by pid, both tests", false);
+    for (held, who) in [(true, "a pid that is there"), (false, "nobody")] {
+        for (what, size, pids, any_names) in TABLES {
+            let turns = pool(prng, (size, pids, any_names), held);
+            let nanos = timed(Called::NamesOf, Which::OwnNodes, &turns);
+            row(&format!("{what}: {who}"), nanos.indexed, None);
+        }
+    }
+}
+
+/// Writing, the test of the table in it; and opening, which zeroes.
+fn writing(prng: &mut Prng) {
+    heading("writing the index, with the test of the table", false);
+    for (what, size, pids, any_names) in TABLES {
+        let turns = pool(prng, (size, pids, any_names), true);
+        row(
+            what,
+            timed(Called::Write, Which::OwnNodes, &turns).indexed,
+            None,
+        );
+    }
+    heading("opening 64 nodes with an index", true);
+    let opening = Asked {
+        n: 64,
+        set: 5,
+        ..Asked::default()
+    };
+    let turn = |_| Turn::new(with_pids(prng, FULL, Pids::Scattered, false), opening);
+    let turns: Vec<Turn> = (0..POOL).map(turn).collect();
+    let nanos = timed(Called::Beside(Which::Open), Which::Open, &turns);
+    row("Open", nanos.indexed, Some(nanos.without[0]));
+}
+
+/// The calls whose stack is measured: each command, reading by pid and writing, each on two nearly full tables.
+pub fn stack_rows(prng: &mut Prng) -> Vec<(String, Called, Vec<(Lent, Asked)>)> {
+    let commands = Which::COMMANDS.into_iter().map(Called::Beside);
+    let others = [Called::Beside(Which::Open), Called::NamesOf, Called::Write];
+    let all = commands.chain(others);
+    all.map(|called| {
+        let (name, which) = match called {
+            Called::Beside(which) => (format!("{which:?}, index"), which),
+            _ => (format!("{called:?}"), Which::OwnNodes),
+        };
+        let tables = [(Pids::Scattered, false), (Pids::Everywhere, true)];
+        let calls = tables.map(|(pids, any_names)| {
+            let words = with_pids(prng, roomy(FULL), pids, any_names);
+            let p = words[BODIES] as u32;
+            let mut asked = main_cases(prng, which, &words, 1)[0];
+            if called == Called::NamesOf {
+                asked.p = p;
+            }
+            (Lent::new(&words, &index_of(&words)), asked)
+        });
+        (name, called, calls.to_vec())
+    })
+    .collect()
+}

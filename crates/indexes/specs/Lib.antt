@@ -1,6 +1,11 @@
+-- The index of a table by pid, the calls with one, and what is proved of them. Index and IndexCalls (believed) have the definitions that the statements of
+-- docs/STATEMENTS.md are made of; of the others a reader needs the statements alone.
+
 pub mod Index
-pub mod Ascending
 pub mod IndexCalls
+pub mod IndexLeft
+-- ---- laws
+pub mod Ascending
 pub mod Updates
 pub mod Sorting
 pub mod Flat

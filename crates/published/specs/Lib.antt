@@ -11,6 +11,7 @@ pub mod WellFormed
 -- ---- the theorems: answers and next tables are the published ones, the lowest reason is given, opening, what a refused lookup or send leaves
 pub mod Exact
 pub mod LowestReason
+pub mod IndexReasons
 pub mod OpeningRule
 pub mod RefusedLinks
 -- ---- table and published state determine each other: the published state of a table is that of its state, one table for one state, a table for every

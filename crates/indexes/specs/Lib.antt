@@ -14,3 +14,4 @@ pub mod Room
 pub mod WalkWords
 pub mod StepRows
 pub mod TestLaws
+pub mod EveryName

@@ -27,19 +27,19 @@ use Rattle.indexes.specs.Flat.{read-rows}
 
 -- ---- which rows a walk holds
 
-holds-append : (r : Row) (xs ys : List Row) → holds r (xs ++ ys) ≡ holds r xs || holds r ys
+pub holds-append : (r : Row) (xs ys : List Row) → holds r (xs ++ ys) ≡ holds r xs || holds r ys
 unfolding holds
 holds-append r [] ys = refl
 holds-append r (x ∷ xs) ys = rw (holds-append r xs ys) (sym (or-assoc (eqb (x .key) (r .key) && eqb (x .name) (r .name)) (holds r xs) (holds r ys)))
 
 -- none that is of another s_group
-holds-other : (r : Row) (s : ℕ) (es : List Entry) → s < group-names → (s ≡ group-of r → ⊥) → holds r (rows s es) ≡ false
+pub holds-other : (r : Row) (s : ℕ) (es : List Entry) → s < group-names → (s ≡ group-of r → ⊥) → holds r (rows s es) ≡ false
 unfolding holds rows
 holds-other r s [] h d = refl
 holds-other r s (e ∷ es) h d = rw (ne-eqb (key-of (e .pid) s) (r .key) (λ q. d (omega (arith, q)))) (holds-other r s es h d)
 
 -- no s_group has a name that is not above the bound
-none-below : (s b : ℕ) (gs : List Group) → Rising b gs → s ≤ b → find s gs ≡ none
+pub none-below : (s b : ℕ) (gs : List Group) → Rising b gs → s ≤ b → find s gs ≡ none
 unfolding find
 none-below s b [] r h = refl
 none-below s b (g ∷ gs) r h = rw (ne-eqb (g .name) s (λ q. omega (arith, r .0))) (none-below s (g .name) gs (r .1) (omega (arith, r .0)))
@@ -92,7 +92,7 @@ module _ (cap N : ℕ) where
 
 -- ---- ascending rows that are all held
 
-holds-sorted : (r : Row) (ws : List Row) → holds r (sorted ws) ≡ holds r ws
+pub holds-sorted : (r : Row) (ws : List Row) → holds r (sorted ws) ≡ holds r ws
 unfolding holds sorted
 holds-sorted r [] = refl
 holds-sorted r (w ∷ ws) = holds-put-in r w (sorted ws) ∙ rw (holds-sorted r ws)

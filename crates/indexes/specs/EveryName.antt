@@ -70,13 +70,13 @@ holds-walk cap N s n p b l (g ∷ gs) i e =
     (by-eq (g .name) s)
 
 -- the index of a regular state has the row of pid, s_group and name where the s_group has the name for the pid, and only there
-pub every-name : {cap : ℕ} {st : State} → Regular cap st → (s n p : ℕ) → s < half-word → p < half-word
+pub every-name : {cap : ℕ} {st : State} → Regular cap st → (s n p : ℕ) → s < half-word
     → (holds (record { key = key-of p s; name = n }) (sorted (walk (st .groups))) ≡ true) ↔ (pid-in n (find s (st .groups)) ≡ some p)
-every-name {cap} {st} r s n p l m =
+every-name {cap} {st} r s n p l =
     rw (holds-sorted (row-of s n p) (walk (st .groups))) (holds-walk cap (st .size) s n p 0 l (st .groups) (r .rising) (r .each))
 
 -- the same of a table that passes the test
-pub every-name-of-table : (t : List ℕ) → sound names-per-group t ≡ true → (s n p : ℕ) → s < half-word → p < half-word
+pub every-name-of-table : (t : List ℕ) → sound names-per-group t ≡ true → (s n p : ℕ) → s < half-word
     → (holds (record { key = key-of p s; name = n }) (sorted (walk (state-of names-per-group t .groups))) ≡ true)
     ↔ (pid-in n (find s (state-of names-per-group t .groups)) ≡ some p)
-every-name-of-table t h s n p l m = every-name (test-regular names-per-group t h .0) s n p l m
+every-name-of-table t h s n p l = every-name (test-regular names-per-group t h .0) s n p l

@@ -4,6 +4,7 @@
 pub mod Index
 pub mod IndexCalls
 pub mod IndexLeft
+pub mod EveryName
 -- ---- laws
 pub mod Ascending
 pub mod Updates
@@ -14,4 +15,3 @@ pub mod Room
 pub mod WalkWords
 pub mod StepRows
 pub mod TestLaws
-pub mod EveryName

@@ -108,16 +108,16 @@ fn is_bad(request: Request) -> bool
 pub fn bad_line(script: &[u8]) -> usize
     ensures { λ r. ⌜ r ≡ first-bad 1 (lines-of (now (script .entry))) ⌝ }
 {
-    let mut at = 0;
+    let mut from = 0;
     let mut number = 1;
-    while at < script.len() {
-        let head = first(&script[at..]);
+    while from < script.len() {
+        let head = first(&script[from..]);
         let size = head.size;
         let request = head.request;
         if is_bad(request) {
             return number;
         }
-        at += size;
+        from += size;
         number += 1;
     }
     0

@@ -11,10 +11,10 @@ use Rattle.script.proofs.bad_line.Statement.{statement}
 use Rattle.script.proofs.bad_line.Tie as tie
 
 abbrev Inv-loop : tie.InvT-loop
-Inv-loop script at₀ number₀ at number = (at ≤ length script) × (number ≤ at + 1) × (first-bad 1 (lines-of script) ≡ first-bad number (lines-of (drop at script)))
+Inv-loop script from₀ number₀ from number = (from ≤ length script) × (number ≤ from + 1) × (first-bad 1 (lines-of script) ≡ first-bad number (lines-of (drop from script)))
 
 abbrev μ-loop : tie.MeasureT-loop
-μ-loop script at₀ number₀ at number = length script - at
+μ-loop script from₀ number₀ from number = length script - from
 
 loop-holds : tie.Need-loop-holds Inv-loop μ-loop
 loop-holds c = search needs
@@ -35,21 +35,21 @@ is-bad-requires : tie.Need-is-bad-requires Inv-loop μ-loop
 is-bad-requires c κs = search needs
 
 returns : tie.Need-returns Inv-loop μ-loop
-returns c = sym (c .before .before .before .before .before .loop .inv .2 ∙ bad-here (c .before .before .before .before .before .before .before .args .script .now) (c .before .before .before .before .before .loop .at) _ _ (c .before .before .before .before .loop-test .taken) (c .before .before .first .ensures .0) (c .before .before .first .ensures .1) _ (sym (c .before .is-bad .ensures) ∙ c .if1 .taken))
+returns c = sym (c .before .before .before .before .before .loop .inv .2 ∙ bad-here (c .before .before .before .before .before .before .before .args .script .now) (c .before .before .before .before .before .loop .from) _ _ (c .before .before .before .before .loop-test .taken) (c .before .before .first .ensures .0) (c .before .before .first .ensures .1) _ (sym (c .before .is-bad .ensures) ∙ c .if1 .taken))
 
-add-at : tie.Need-add-at Inv-loop μ-loop
-add-at c = omega (arith, bad-size (c .before .before .before .before .before .before .before .args .script .now) (c .before .before .before .before .before .loop .at) _ _ (c .before .before .before .before .loop-test .taken) (c .before .before .first .ensures .0) (c .before .before .first .ensures .1))
+add-from : tie.Need-add-from Inv-loop μ-loop
+add-from c = omega (arith, bad-size (c .before .before .before .before .before .before .before .args .script .now) (c .before .before .before .before .before .loop .from) _ _ (c .before .before .before .before .loop-test .taken) (c .before .before .first .ensures .0) (c .before .before .first .ensures .1))
 
 add-number : tie.Need-add-number Inv-loop μ-loop
-add-number c = omega (arith, bad-size (c .before .before .before .before .before .before .before .args .script .now) (c .before .before .before .before .before .loop .at) _ _ (c .before .before .before .before .loop-test .taken) (c .before .before .first .ensures .0) (c .before .before .first .ensures .1))
+add-number c = omega (arith, bad-size (c .before .before .before .before .before .before .before .args .script .now) (c .before .before .before .before .before .loop .from) _ _ (c .before .before .before .before .loop-test .taken) (c .before .before .first .ensures .0) (c .before .before .first .ensures .1))
 
 loop-less : tie.Need-loop-less Inv-loop μ-loop
-loop-less c = omega (arith, bad-size (c .before .before .before .before .before .before .before .args .script .now) (c .before .before .before .before .before .loop .at) _ _ (c .before .before .before .before .loop-test .taken) (c .before .before .first .ensures .0) (c .before .before .first .ensures .1))
+loop-less c = omega (arith, bad-size (c .before .before .before .before .before .before .before .args .script .now) (c .before .before .before .before .before .loop .from) _ _ (c .before .before .before .before .loop-test .taken) (c .before .before .first .ensures .0) (c .before .before .first .ensures .1))
 
 loop-again : tie.Need-loop-again Inv-loop μ-loop
 loop-again c =
-    let z = bad-size (c .before .before .before .before .before .before .before .args .script .now) (c .before .before .before .before .before .loop .at) _ _ (c .before .before .before .before .loop-test .taken) (c .before .before .first .ensures .0) (c .before .before .first .ensures .1) in
-    (omega arith, omega arith, c .before .before .before .before .before .loop .inv .2 ∙ bad-further (c .before .before .before .before .before .before .before .args .script .now) (c .before .before .before .before .before .loop .at) _ _ (c .before .before .before .before .loop-test .taken) (c .before .before .first .ensures .0) (c .before .before .first .ensures .1) _ (sym (c .before .is-bad .ensures) ∙ c .if1 .left))
+    let z = bad-size (c .before .before .before .before .before .before .before .args .script .now) (c .before .before .before .before .before .loop .from) _ _ (c .before .before .before .before .loop-test .taken) (c .before .before .first .ensures .0) (c .before .before .first .ensures .1) in
+    (omega arith, omega arith, c .before .before .before .before .before .loop .inv .2 ∙ bad-further (c .before .before .before .before .before .before .before .args .script .now) (c .before .before .before .before .before .loop .from) _ _ (c .before .before .before .before .loop-test .taken) (c .before .before .first .ensures .0) (c .before .before .first .ensures .1) _ (sym (c .before .is-bad .ensures) ∙ c .if1 .left))
 
 returns-2 : tie.Need-returns-2 Inv-loop μ-loop
 returns-2 c = sym (c .before .loop .inv .2 ∙ bad-nowhere _ _ _ (c .loop-test .left))
@@ -67,7 +67,7 @@ bad-line-spec =
     first-requires
     is-bad-requires
     returns
-    add-at
+    add-from
     add-number
     loop-less
     loop-again

@@ -22,7 +22,7 @@ use std::collections::BTreeMap;
 
 /// Walks of random calls on which both sides agree.
 const WALKS: u64 = 60;
-/// Tables of a row, each with a call.
+/// Tables of a row, each with a call. Where a step of a search is a branch, it takes five times as long on so many as on eight, which the processor learns.
 const POOL: usize = 64;
 /// Rounds of calls on a full table, and on a smaller one.
 const ROUNDS: usize = 100;
@@ -348,7 +348,7 @@ fn commands(prng: &mut Prng, which: Which, size: Size) {
 /// Reading by pid, both tests in it, on pids that are there and on others.
 fn reading(prng: &mut Prng) {
     heading("reading by pid, both tests", false);
-    for (held, who) in [(true, "a pid that is there"), (false, "nobody")] {
+    for (held, who) in [(true, "a pid held"), (false, "nobody")] {
         for (what, size, pids, any_names) in TABLES {
             let turns = pool(prng, (size, pids, any_names), held);
             let nanos = timed(Called::NamesOf, Which::OwnNodes, &turns);
@@ -380,13 +380,20 @@ fn writing(prng: &mut Prng) {
     row("Open", nanos.indexed, Some(nanos.without[0]));
 }
 
-/// The calls whose stack is measured: each command, reading by pid and writing, each on two nearly full tables.
-pub fn stack_rows(prng: &mut Prng) -> Vec<(String, Called, Vec<(Lent, Asked)>)> {
+/// Calls whose stack is measured, on two nearly full tables.
+pub struct StackRow {
+    pub what: String,
+    pub called: Called,
+    pub calls: [(Lent, Asked); 2],
+}
+
+/// Each command, opening, reading by pid and writing.
+pub fn stack_rows(prng: &mut Prng) -> Vec<StackRow> {
     let commands = Which::COMMANDS.into_iter().map(Called::Beside);
     let others = [Called::Beside(Which::Open), Called::NamesOf, Called::Write];
     let all = commands.chain(others);
     all.map(|called| {
-        let (name, which) = match called {
+        let (what, which) = match called {
             Called::Beside(which) => (format!("{which:?}, index"), which),
             _ => (format!("{called:?}"), Which::OwnNodes),
         };
@@ -400,7 +407,11 @@ pub fn stack_rows(prng: &mut Prng) -> Vec<(String, Called, Vec<(Lent, Asked)>)> 
             }
             (Lent::new(&words, &index_of(&words)), asked)
         });
-        (name, called, calls.to_vec())
+        StackRow {
+            what,
+            called,
+            calls,
+        }
     })
     .collect()
 }

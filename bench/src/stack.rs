@@ -91,11 +91,11 @@ fn measure(seed: u64) -> Vec<(String, usize)> {
     for which in Which::COMMANDS {
         all.push((format!("{which:?}"), command(&mut prng, base, which)));
     }
-    for (what, called, calls) in indexes::stack_rows(&mut prng) {
-        let deepest = calls.into_iter().map(|(mut lent, asked)| {
-            depth(&mut || u64::from(call(&index_api::PROVED, called, &mut lent, &asked)))
+    for row in indexes::stack_rows(&mut prng) {
+        let deepest = row.calls.into_iter().map(|(mut lent, asked)| {
+            depth(&mut || u64::from(call(&index_api::PROVED, row.called, &mut lent, &asked)))
         });
-        all.push((what, deepest.max().unwrap_or(0).saturating_sub(base)));
+        all.push((row.what, deepest.max().unwrap_or(0).saturating_sub(base)));
     }
     for (what, given) in stack_rows(&mut prng) {
         let mut lent = Lent::new(&words);

@@ -157,9 +157,7 @@ impl Faulty<'_> {
             }
             Fault::LastMissing => drop(self.entries.pop()),
             Fault::UnusedWord => self.use_word(),
-            Fault::ByGroup => self
-                .entries
-                .sort_by_key(|entry| entry[0] << 32 | entry[0] >> 32),
+            Fault::ByGroup => self.entries.sort_by_key(|entry| entry[0].rotate_right(32)),
             Fault::Descending => self.entries.reverse(),
             Fault::Shifted => self.shift(),
             Fault::Stale => self.entries = entries(stale),

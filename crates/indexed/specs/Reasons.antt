@@ -117,10 +117,9 @@ module _ (t x : List ℕ) where
       rw (eq-eqb (length t) (table-words names-per-group) (q .0), q .1, h)
 
   -- a run of another length is no index
-  pub index-short : first (no-table t) ≡ Done → (length x ≡ index-words names-per-group → ⊥) → same x (index-of-table names-per-group t) ≡ false
+  pub index-short : sound names-per-group t ≡ true → (length x ≡ index-words names-per-group → ⊥) → same x (index-of-table names-per-group t) ≡ false
   index-short e n =
-      unless (same x (index-of-table names-per-group t)) (λ h.
-      n (index-long (record { ok = table-sound t e .1; is = same-iff x (index-of-table names-per-group t) .0 h })))
+      unless (same x (index-of-table names-per-group t)) (λ h. n (index-long (record { ok = e; is = same-iff x (index-of-table names-per-group t) .0 h })))
 
   -- runs without a reason are a sound table and its index
   pub index-there : {r : Reason} → r ≡ first (no-index t x) → r ≡ Done

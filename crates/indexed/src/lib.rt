@@ -11,11 +11,14 @@ use layout::NODE_LIMIT;
 use layout::TABLE_WORDS;
 use table::is_sound;
 ghost use mathlib.Core.Path.{_≡_};
+ghost use mathlib.Core.Bool.{true};
 ghost use mathlib.Core.List.{List};
 ghost use Prim.Native.Nat.{ℕ};
 ghost use lib.ListN.{length};
 ghost use Rattle.commands.specs.declared.Command.the-variants.{RegisteredNames, WhereisName, OwnNodes, OwnSGroups};
-ghost use Rattle.semantics.specs.Sizes.{names-per-group, index-words};
+ghost use Rattle.semantics.specs.Sizes.{names-per-group, table-words, index-words};
+ghost use Rattle.semantics.specs.Test.{same, sound};
+ghost use Rattle.indexes.specs.Index.{index-of-table};
 ghost use Rattle.semantics.specs.FirstReason.{first};
 ghost use Rattle.semantics.specs.Call.{listed-over};
 ghost use Rattle.indexes.specs.IndexCalls.{no-table, no-index, indexed, opened, written, read};
@@ -33,6 +36,19 @@ fn table_reason(table: &[u64]) -> Reason
     Reason::TableLength
 }
 
+// Whether the run is the index of the table, which is sound. It is called from two places, so that what it keeps on the stack is not there while the table
+// is tested.
+fn is_right(table: &[u64], index: &[u64]) -> bool
+    requires { ⌜ length (now table) ≡ table-words names-per-group ⌝ }
+    requires { ⌜ sound names-per-group (now table) ≡ true ⌝ }
+    ensures { λ r. ⌜ r ≡ same (now (index .entry)) (index-of-table names-per-group (now (table .entry))) ⌝ }
+{
+    if index.len() == INDEX_WORDS {
+        return is_index(table, index);
+    }
+    false
+}
+
 // Why the runs are no sound table with its index.
 fn index_reason(table: &[u64], index: &[u64]) -> Reason
     ensures { λ r. ⌜ r ≡ first (no-index (now (table .entry)) (now (index .entry))) ⌝ }
@@ -41,10 +57,8 @@ fn index_reason(table: &[u64], index: &[u64]) -> Reason
     let Reason::Done = reason else {
         return reason;
     };
-    if index.len() == INDEX_WORDS {
-        if is_index(table, index) {
-            return Reason::Done;
-        }
+    if is_right(table, index) {
+        return Reason::Done;
     }
     Reason::IndexWrong
 }
@@ -62,11 +76,14 @@ pub fn call(
     ensures { λ _. ⌜ now (index .exit) ≡ indexed (length (now (out .entry))) caller command (now (table .entry)) (now (index .entry)) .index ⌝ }
     ensures { λ _. ⌜ now (out .exit) ≡ listed-over (indexed (length (now (out .entry))) caller command (now (table .entry)) (now (index .entry)) .given .list) (now (out .entry)) ⌝ }
 {
-    let reason = index_reason(table, index);
+    let reason = table_reason(table);
     let Reason::Done = reason else {
         return refused(reason);
     };
-    indexing::step(table, index, out, caller, command)
+    if is_right(table, index) {
+        return indexing::step(table, index, out, caller, command);
+    }
+    refused(Reason::IndexWrong)
 }
 
 // The refusal of an opening whose run for the index has not an index's length: reasons 1 and 2 stand before.

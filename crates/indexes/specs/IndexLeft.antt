@@ -12,18 +12,15 @@ use Rattle.nodes.specs.Sets.{node-limit, beyond}
 use Rattle.answers.specs.Answers.{refuses}
 use Rattle.commands.specs.declared.Command.{Command}
 use Rattle.semantics.specs.Sizes.{names-per-group, table-words, index-words}
-use Rattle.semantics.specs.State.{State}
 use Rattle.semantics.specs.Steps as Steps
-use Rattle.semantics.specs.Table.{layout, state-of}
 use Rattle.semantics.specs.RoundTrip.{round-trip}
 use Rattle.semantics.specs.OpenedRegular.{opened-regular}
 use Rattle.semantics.specs.Truth.{neither}
 use Rattle.semantics.specs.FirstReason.{first}
 use Rattle.semantics.specs.Call.{call, opening}
-use Rattle.answers.specs.declared.Reason.{Reason}
 use Rattle.answers.specs.declared.Reason.the-variants.{Done, TableLength, RosterSize, NodeUnknown, IndexWrong}
 use Rattle.indexes.specs.Index.{walk, sorted, flat, index-of, index-of-table}
-use Rattle.indexes.specs.IndexCalls.{Indexed, no-index, indexed, opening-tests, opened}
+use Rattle.indexes.specs.IndexCalls.{no-index, indexed, opening-tests, opened}
 
 -- a call gives what it gives without an index, and leaves the index of its table
 pub as-without : (room i : ℕ) (c : Command) (t x : List ℕ) → refuses (first (no-index t x)) ≡ false

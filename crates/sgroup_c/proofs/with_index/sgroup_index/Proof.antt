@@ -1,9 +1,6 @@
 -- `sgroup_c::with_index::sgroup_index` meets its contract: with room for the answer it is the call's, and without it nothing is called.
 -- Assumes nothing.
 use borrow.Author.Needs.{needs}
-use mathlib.Core.Path.{refl}
-use mathlib.Core.List.{[]}
-use Rattle.indexes.specs.IndexCalls.{written}
 use Rattle.answer_words.specs.Told.{silent-written, tells-written}
 use Rattle.sgroup_c.proofs.with_index.sgroup_index.Statement.{statement}
 use Rattle.sgroup_c.proofs.with_index.sgroup_index.Tie as tie

@@ -50,12 +50,13 @@ indexed room i c t x =
     let r : Reason = first (no-index t x) in
     cond (refuses r) (left r t x) (beside (call room i c t))
 
--- opening: N nodes, of which some are hidden; every word of the index becomes zero
+-- the tests of an opening: of the index its length alone
 abbrev pub opening-tests : ℕ → ℕ → List ℕ → List ℕ → List Test
 opening-tests N hidden t x =
     TableLength when not (eqb (length t) (table-words names-per-group)) ∷ RosterSize when (eqb N 0 || ltb node-limit N)
     ∷ misfit x ∷ NodeUnknown when beyond hidden N ∷ []
 
+-- opening: N nodes, of which some are hidden; every word of the index becomes zero
 unfoldable pub opened : ℕ → ℕ → List ℕ → List ℕ → Indexed
 opened N hidden t x =
     let r : Reason = first (opening-tests N hidden t x) in
@@ -67,10 +68,11 @@ written t x =
     let r : Reason = first (no-table t ++ (misfit x ∷ [])) in
     cond (refuses r) (left r t x) (beside (record { answer = answer-of Ok Done; list = []; table = t }))
 
--- reading by pid: s_group and name of each row of the pid p, as a list
+-- s_group and name of each row of the pid p in a state
 abbrev pub names-in : ℕ → State → List ℕ
 names-in p st = names-of p (sorted (walk (st .groups)))
 
+-- reading by pid: these, as a list
 unfoldable pub read : ℕ → ℕ → List ℕ → List ℕ → Call
 read room p t x =
     let st : State = state-of names-per-group t in

@@ -1,6 +1,6 @@
 -- The test of every number below a bound: what a loop that makes it turn by turn needs, and what a reader needs, with the other tests that stand
 -- in it. Assumes nothing.
-use mathlib.Core.Path.{_≡_, refl, sym, ap, _∙_}
+use mathlib.Core.Path.{_≡_, refl, sym, ap, ap₂, _∙_}
 use mathlib.Core.Logic.{⊎-elim, _↔_}
 use mathlib.Core.Bool.{Bool, true, false, not, _&&_, _||_, Bool·beq, and-eq-true-iff, true≢false}
 use mathlib.Core.List.{List}
@@ -45,6 +45,12 @@ unfolding all-below
 below-from zero p h = refl
 below-from (suc n) p h =
     and-eq-true-iff (all-below n p) (p n) .1 (below-from n p (λ i l. h i (omega arith)), h n (omega arith))
+
+-- equal tests of each number: equal tests of all
+pub below-ext : (n : ℕ) (p q : ℕ → Bool) → ((i : ℕ) → i < n → p i ≡ q i) → all-below n p ≡ all-below n q
+unfolding all-below
+below-ext zero p q h = refl
+below-ext (suc n) p q h = ap₂ _&&_ (below-ext n p q (λ i l. h i (omega arith))) (h n (omega arith))
 
 pub below-iff : (n : ℕ) (p : ℕ → Bool) → (all-below n p ≡ true) ↔ ((i : ℕ) → i < n → p i ≡ true)
 below-iff n p = (below-at n p, below-from n p)

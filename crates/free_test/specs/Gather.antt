@@ -1,7 +1,7 @@
--- A loop that gathers by `|` what fails: nothing is gathered where every turn passes. Assumes nothing.
+-- A loop that gathers by `|` what fails: nothing is gathered where every turn passes; and a walk over the members of a set. Assumes nothing.
 use mathlib.Core.Path.{_≡_, sym, ap, ap₂, _∙_}
 use mathlib.Core.Logic.{⊎-elim}
-use mathlib.Core.Bool.{Bool, true, not, _&&_, and-assoc, and-eq-true-iff, true≢false}
+use mathlib.Core.Bool.{Bool, true, not, _&&_, and-true, and-assoc, and-eq-true-iff, true≢false}
 use Prim.Native.Nat.{ℕ, _+_, _-_, _^_, _<_}
 use native.Mathlib.Omega.{arith}
 use lib.Dec.{eqb}
@@ -26,7 +26,7 @@ empty-union a b =
     eq-eqb (bitOr a b) 0 (omega (arith, or-add-and a b, eqb-true a 0 (both .0), eqb-true b 0 (both .1))))
 
 -- `a ^ b` is zero where the two are equal
-empty-xor : (a b : ℕ) → empty (bitXor a b) ≡ eqb a b
+pub empty-xor : (a b : ℕ) → empty (bitXor a b) ≡ eqb a b
 empty-xor a b =
     test-ext (empty (bitXor a b)) (eqb a b)
     (λ e. eq-eqb a b (omega (arith, eqb-true (bitXor a b) 0 e, xor-add-and a b, and-le-l a b, and-le-r a b)))
@@ -60,12 +60,20 @@ of-first set p some fits =
     left : (i : ℕ) → has set i ≡ true → (lowest set ≡ i → ⊥) → has (rest set) i ≡ true
     left i m n = has-without-node set (lowest set) i ∙ rw (m, ne-eqb (lowest set) i n)
 
+-- one turn: what all passed say, with what the lowest member says, and the rest is left
+pub turn : (was now : Bool) (left : ℕ) (p : ℕ → Bool) → 0 < left → left < 2 ^ node-limit → now ≡ (was && p (lowest left))
+    → (now && all-of (rest left) p) ≡ (was && all-of left p)
+turn was now left p some fits at = rw (at, of-first left p some fits) (and-assoc was (p (lowest left)) (all-of (rest left) p))
+
 -- one turn: what fails of the lowest member is gathered, and the rest is left
 pub met-turn : (all w left : ℕ) (p : ℕ → Bool) → 0 < left → left < 2 ^ node-limit → empty w ≡ p (lowest left)
     → (empty (union all w) && all-of (rest left) p) ≡ (empty all && all-of left p)
 met-turn all w left p some fits at =
-    rw (empty-union all w, of-first left p some fits, at) (and-assoc (empty all) (p (lowest left)) (all-of (rest left) p))
+    turn (empty all) (empty (union all w)) left p some fits (empty-union all w ∙ ap (λ (t : Bool). empty all && t) at)
 
--- no member is left
-pub of-none : (p : ℕ → Bool) → all-of 0 p ≡ true
-of-none p = of-iff 0 p .1 (λ i l m. absurd (true≢false (sym m ∙ has-none i)))
+-- at the end no member is left
+pub walked : (was : Bool) (left : ℕ) (p : ℕ → Bool) → left ≡ 0 → was ≡ (was && all-of left p)
+walked was left p none = sym (rw (none, of-none) (and-true was))
+  where
+    of-none : all-of 0 p ≡ true
+    of-none = of-iff 0 p .1 (λ i l m. absurd (true≢false (sym m ∙ has-none i)))

@@ -7,16 +7,17 @@ use mathlib.Core.List.{List}
 use Prim.Native.Nat.{ℕ, _-_, _^_, _≤_, _<_}
 use native.Mathlib.Omega.{arith}
 use lib.Dec.{eqb}
-use lib.ListN.{length, List·getD-eq-default}
+use lib.ListN.{length}
 use borrow.Author.Tests.{eq-eqb, ne-eqb}
 use Rattle.nodes.specs.Sets.{node-limit, has, single, union, inter, lowest, without-node, word-at}
 use Rattle.nodes.specs.Bools.{by-lt, by-eq, by-test, test-ext}
 use Rattle.nodes.specs.SetLaws.{has-none, has-below, below-pow, has-ext, has-union, has-inter, has-single, has-without-node, subset-has, has-subset}
-use Rattle.nodes.specs.LowestNode.{lowest-none, lowest-lt, lowest-has, lowest-le}
+use Rattle.nodes.specs.LowestNode.{lowest-lt, lowest-has, lowest-le}
 use Rattle.semantics.specs.Soundness.{In}
 use Rattle.semantics.specs.Test.{freely}
 use Rattle.free_test.specs.WireTests.{all-of, one-a-node, both-ways, links-sound, others-met, members-met, free-sound}
 use Rattle.free_test.specs.Below.{tests, of-iff, not-iff, eqb-iff, tail-iff, within-iff}
+use Rattle.free_test.specs.Loose.{freely-none, none-lowest}
 
 -- ---- connections
 
@@ -176,10 +177,6 @@ module _ (n loose : ℕ) (L F : ℕ → ℕ) (s : Sound-links n L) (on-roster : 
       let same : b ≡ a = omega (arith, lowest-le (F j) a a-in, lowest-le (F i) b b-in) in
       sym (low j i k back) ∙ ap F same ∙ low i j l m
 
--- a node that is not free has no group by its connections
-freely-none : (loose i w : ℕ) → (In i loose → ⊥) → freely loose i w ≡ 0
-freely-none loose i w none = ⊎-elim (λ m. absurd (none m)) (λ m. rw m) (by-test (has loose i))
-
 module _ (links free : List ℕ) (loose n : ℕ) (Loose : ℕ → Type 0) (L F : ℕ → ℕ) (long-links : length links ≡ node-limit)
     (long-free : length free ≡ node-limit) (same-links : Agree (word-at links) L) (same-free : Agree (word-at free) F)
     (tells : (i : ℕ) → In i loose ↔ Loose i) (on-roster : (i : ℕ) → Loose i → i < n) (s : Sound-links n L) where
@@ -240,14 +237,10 @@ module _ (links free : List ℕ) (loose n : ℕ) (Loose : ℕ → Type 0) (L F :
         f .only-free i (limit i l) (λ q. none (tells i .1 q)) ∙ sym (freely-none loose i (L i) none))
         (by-test (has loose i))
 
-    -- a word is that of its lowest node; where it is zero, the lowest node is past the run
+    -- a word is that of its lowest node
     due-low : (i : ℕ) → i < n → word-at free (lowest (word-at free i)) ≡ word-at free i
-    due-low i l = ⊎-elim (λ e. empty-word e) (λ d. some-word d) (by-eq (word-at free i) 0)
+    due-low i l = ⊎-elim (λ e. none-lowest free long-free i e) (λ d. some-word d) (by-eq (word-at free i) 0)
       where
-        empty-word : word-at free i ≡ 0 → word-at free (lowest (word-at free i)) ≡ word-at free i
-        empty-word e =
-            ap (λ (w : ℕ). word-at free (lowest w)) e ∙ ap (word-at free) lowest-none ∙ List·getD-eq-default free 0 (omega arith) ∙ sym e
-
         some-word : word-at free i ≢ 0 → word-at free (lowest (word-at free i)) ≡ word-at free i
         some-word d =
             let here = same-free i (limit i l) in

@@ -58,9 +58,13 @@ members-met links set = one-a-node links && all-of set (others-met links set)
 abbrev pub own-free : List ℕ → List ℕ → ℕ → ℕ → Bool
 own-free links free loose n = all-below n (λ i. eqb (word-at free i) (freely loose i (word-at links i)))
 
+-- node i has the word that the lowest node of its free normal group has
+abbrev pub is-lowest : List ℕ → ℕ → Bool
+is-lowest free i = eqb (word-at free (lowest (word-at free i))) (word-at free i)
+
 -- each of the first n nodes has the word that the lowest node of its free normal group has
 abbrev pub own-lowest : List ℕ → ℕ → Bool
-own-lowest free n = all-below n (λ i. eqb (word-at free (lowest (word-at free i))) (word-at free i))
+own-lowest free n = all-below n (is-lowest free)
 
 -- the free normal groups of n nodes: those that the connections give, each in the word of its lowest node; every other word is zero.
 -- With sound connections each is then in the words of all its nodes (`Reading`)

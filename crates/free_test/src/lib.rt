@@ -3,6 +3,7 @@ use nodes::NODE_LIMIT;
 use nodes::diff;
 use nodes::lowest;
 use nodes::rest;
+use nodes::subset;
 use nodes::without;
 use nodes::word_at;
 ghost use mathlib.Core.Path.{_≡_};
@@ -10,8 +11,8 @@ ghost use Prim.Native.Nat.{_≤_, _<_};
 ghost use lib.ListN.{length};
 ghost use Rattle.nodes.specs.Sets.{node-limit};
 ghost use Rattle.semantics.specs.Test.{freely};
-ghost use Rattle.free_test.specs.WireTests.{all-zero};
-ghost use Rattle.free_test.specs.WireTests.{members-met, own-free, own-lowest, free-sound};
+ghost use Rattle.free_test.specs.WireTests.{all-zero, all-of, members-met, own-free, is-lowest, free-sound};
+ghost use Rattle.free_test.specs.Knowing.{Known, knows-all};
 
 // How many words a run has.
 pub const NODE_WORDS: usize = NODE_LIMIT as usize;
@@ -44,6 +45,30 @@ pub fn members_met(links: &[u64], set: u64) -> bool
     missed == 0
 }
 
+// Writes the connections of each node with the node itself among them.
+pub fn know(links: &[u64], known: &mut [u64])
+    requires { ⌜ (length (now links) ≡ node-limit) × (length (now known) ≡ node-limit) ⌝ }
+    ensures { λ _. ⌜ Known (now (links .entry)) (now (known .exit)) ⌝ }
+{
+    for i in 0..NODE_WORDS {
+        known[i] = links[i] | (1 << i);
+    }
+}
+
+// Whether each member of the set knows all members.
+pub fn known_met(known: &[u64], set: u64) -> bool
+    requires { ⌜ length (now known) ≡ node-limit ⌝ }
+    ensures { λ r. ⌜ r ≡ all-of set (knows-all (now (known .entry)) set) ⌝ }
+{
+    let mut common: u64 = !0;
+    let mut left = set;
+    while left != 0 {
+        common = common & known[lowest(left) as usize];
+        left = rest(left);
+    }
+    subset(set, common)
+}
+
 // The free normal group of node i, from its connections and the free normal nodes.
 fn freely(loose: u64, i: usize, word: u64) -> u64
     requires { ⌜ i < node-limit ⌝ }
@@ -68,15 +93,17 @@ fn own_free(links: &[u64], free: &[u64], loose: u64, n: usize) -> bool
     off == 0
 }
 
-// Whether each of the first n words is that of its lowest node.
-fn own_lowest(free: &[u64], n: usize) -> bool
-    requires { ⌜ (length (now free) ≡ node-limit) × (n ≤ node-limit) ⌝ }
-    ensures { λ r. ⌜ r ≡ own-lowest (now (free .entry)) n ⌝ }
+// Whether the word of each node of the set is that of its lowest node.
+fn own_lowest(free: &[u64], set: u64) -> bool
+    requires { ⌜ length (now free) ≡ node-limit ⌝ }
+    ensures { λ r. ⌜ r ≡ all-of set (is-lowest (now (free .entry))) ⌝ }
 {
     let mut off: u64 = 0;
-    for i in 0..n {
-        let group = free[i];
+    let mut left = set;
+    while left != 0 {
+        let group = free[lowest(left) as usize];
         off = off | (word_at(free, lowest(group) as usize) ^ group);
+        left = rest(left);
     }
     off == 0
 }
@@ -94,6 +121,9 @@ pub fn free_sound<'a>(links: &'a [u64], free: &'a [u64], loose: u64, n: u32) -> 
     if n > NODE_LIMIT {
         return false;
     }
+    if loose == 0 {
+        return all_zero(free);
+    }
     let size = n as usize;
-    own_free(links, free, loose, size) & all_zero(&free[size..]) & own_lowest(free, size)
+    own_free(links, free, loose, size) & all_zero(&free[size..]) & own_lowest(free, loose)
 }

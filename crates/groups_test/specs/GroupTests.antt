@@ -1,5 +1,5 @@
 -- What the soundness test computes, part by part. Assumes nothing.
-use mathlib.Core.Bool.{Bool, not, _&&_}
+use mathlib.Core.Bool.{Bool, not, _&&_, cond}
 use mathlib.Core.List.{List}
 use Prim.Native.Nat.{ℕ, zero, suc, _+_, _-_, _*_, min}
 use lib.Dec.{eqb, leb, ltb}
@@ -9,6 +9,8 @@ use Rattle.entries.specs.NamespaceSound.{sound-words}
 use Rattle.semantics.specs.Sizes.{group-limit, contents-at, members-at, links-at, free-at, bodies-at, table-words}
 use Rattle.semantics.specs.Soundness.{hidden-of, name-of, names-of, members-of}
 use Rattle.free_test.specs.WireTests.{all-below, all-zero, links-sound, members-met, free-sound}
+use Rattle.groups_test.specs.declared.Grouped.{Grouped}
+use Rattle.groups_test.specs.declared.Grouped.the-variants as grouped
 
 -- the name of the s_group before group g, and 0 before the first
 abbrev pub name-before : List ℕ → ℕ → ℕ
@@ -65,15 +67,26 @@ unused-zero cap t G =
     all-zero (part t (contents-at + G) members-at)
     && (all-zero (part t (members-at + G) links-at) && all-zero (part t (bodies-at + cap * G) (table-words cap)))
 
--- of the first n nodes, those that are neither hidden nor in one of the first G s_groups
+-- the nodes in one of the first G s_groups
+abbrev pub grouped-in : List ℕ → ℕ → ℕ
+grouped-in t G = union-all (take G (members-part t))
+
+-- what contents and members come to: the nodes in an s_group where all is right with them
+abbrev pub grouped-of : ℕ → List ℕ → ℕ → ℕ → Grouped
+grouped-of cap t G n = cond (all-below G (contents-right cap t) && all-below G (members-right t n)) (grouped.Nodes (grouped-in t G)) grouped.Wrong
+
+-- of the first n nodes, those that are neither hidden nor among those in an s_group
 abbrev pub loose-in : List ℕ → ℕ → ℕ → ℕ
-loose-in t G n = diff (diff (roster (min n node-limit)) (hidden-of t)) (union-all (take G (members-part t)))
+loose-in t in-group n = diff (diff (roster (min n node-limit)) (hidden-of t)) in-group
+
+-- all that follows contents and members, for G s_groups, n nodes, and those of them in an s_group
+abbrev pub rest-right : ℕ → List ℕ → ℕ → ℕ → ℕ → Bool
+rest-right cap t G n in-group =
+    links-sound (links-part t) n
+    && (all-below G (met-right t)
+    && (free-sound (links-part t) (free-part t) (loose-in t in-group n) n && (unused-zero cap t G && all-below G (names-right cap t n))))
 
 -- all that follows the head, for G s_groups and n nodes
 abbrev pub parts-right : ℕ → List ℕ → ℕ → ℕ → Bool
 parts-right cap t G n =
-    all-below G (contents-right cap t)
-    && (all-below G (members-right t n)
-    && (unused-zero cap t G
-    && (links-sound (links-part t) n
-    && (all-below G (met-right t) && (free-sound (links-part t) (free-part t) (loose-in t G n) n && all-below G (names-right cap t n))))))
+    all-below G (contents-right cap t) && all-below G (members-right t n) && rest-right cap t G n (grouped-in t G)

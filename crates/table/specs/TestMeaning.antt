@@ -6,27 +6,27 @@ use mathlib.Core.List.{List}
 use Prim.Native.Nat.{ℕ, zero, suc, _+_, _-_, _*_, _/_, _%_, _≤_, _<_}
 use native.Mathlib.Nat.{eq-or-lt-of-le, le-of-suc-le-suc, not-suc-le-zero, div-add-mod', mod-lt, le-div-iff-mul-le, div-lt-iff-lt-mul, mul-comm, mul-le-mul-left}
 use native.Mathlib.Omega.{arith}
-use lib.ListN.{length, getD, take, drop, length-drop}
-use lib.Seq.{getD-take, getD-drop, length-take-le}
+use lib.ListN.{length}
 use borrow.Author.Tests.{eqb-true, eq-eqb, ltb-true, lt-ltb, not-true}
-use Rattle.nodes.specs.Sets.{node-limit, has, empty, roster, diff, union-all, word-at}
+use Rattle.nodes.specs.Sets.{node-limit, empty, roster, diff, word-at}
 use Rattle.nodes.specs.Bools.{by-lt, test-ext}
-use Rattle.nodes.specs.SetLaws.{has-diff, has-roster, below-pow, union-all-in, union-all-out}
+use Rattle.nodes.specs.SetLaws.{has-diff, has-roster, below-pow}
 use Rattle.semantics.specs.Sizes.{group-limit, contents-at, members-at, links-at, free-at, bodies-at, table-words}
 use Rattle.semantics.specs.Soundness.{size-of, hidden-of, count-of, name-of, members-of, links-of, free-of, entry-of, In, Free-normal, Sound}
 use Rattle.semantics.specs.Truth.{unless}
 use Rattle.free_test.specs.WireTests.{all-below, all-zero, links-sound, free-sound}
 use Rattle.free_test.specs.Below.{tests, below-iff, within-iff}
 use Rattle.free_test.specs.WireTestMeaning.{Sound-links, Sound-free, links-sound-iff, members-met-iff, free-sound-iff}
-use Rattle.groups_test.specs.GroupTests.{name-before, contents-right, members-right, part, members-part, links-part, free-part, met-right, names-right, head-right, unused-zero}
+use Rattle.groups_test.specs.GroupTests.{name-before, contents-right, members-right, part, links-part, free-part, met-right, names-right, head-right, unused-zero, grouped-in}
 use Rattle.groups_test.specs.GroupsBelow.{body-within}
+use Rattle.groups_test.specs.GroupMembers.{length-part, part-word, grouped-has, grouped-by}
 use Rattle.table.specs.NamesTestMeaning.{Names-sound, names-iff}
 
 -- ---- what is tested
 
 -- the normal nodes of the roster in no s_group
 abbrev pub loose-of : List ℕ → ℕ
-loose-of t = diff (diff (roster (size-of t)) (hidden-of t)) (union-all (take (count-of t) (members-part t)))
+loose-of t = diff (diff (roster (size-of t)) (hidden-of t)) (grouped-in t (count-of t))
 
 -- every part of a run of the table's length passes
 pub record Right (cap : ℕ) (t : List ℕ) : Type 0 where
@@ -41,26 +41,19 @@ pub record Right (cap : ℕ) (t : List ℕ) : Type 0 where
 
 -- ---- parts of a run
 
-module _ (t : List ℕ) (a b : ℕ) where
-  length-part : b ≤ length t → length (part t a b) ≡ b - a
-  length-part h = length-take-le (b - a) (drop a t) (simp length-drop (omega arith))
-
-  part-word : (i : ℕ) → i < b - a → getD (part t a b) i 0 ≡ word-at t (a + i)
-  part-word i h = getD-take (b - a) (drop a t) i 0 h ∙ getD-drop a t i 0
-
-  -- a part is zero where each of its words is
-  zero-iff : b ≤ length t → (all-zero (part t a b) ≡ true) ↔ ((k : ℕ) → a ≤ k → k < b → word-at t k ≡ 0)
-  unfolding all-zero
-  zero-iff h = (
-    λ e k l u.
-        let q : k ≡ a + (k - a) = omega arith in
-        let i : k - a < b - a = omega arith in
-        ap (word-at t) q ∙ sym (part-word (k - a) i) ∙ eqb-true _ _ (below-iff (length (part t a b)) (λ j. empty (word-at (part t a b) j)) .0 e (k - a) (omega (arith, length-part h))),
-    λ z.
-        below-iff (length (part t a b)) (λ j. empty (word-at (part t a b) j)) .1 λ i l.
-        let u : i < b - a = omega (arith, length-part h) in
-        eq-eqb _ _ (part-word i u ∙ z (a + i) (omega arith) (omega arith)),
-  )
+-- a part is zero where each of its words is
+zero-iff : (t : List ℕ) (a b : ℕ) → b ≤ length t → (all-zero (part t a b) ≡ true) ↔ ((k : ℕ) → a ≤ k → k < b → word-at t k ≡ 0)
+unfolding all-zero
+zero-iff t a b h = (
+  λ e k l u.
+      let q : k ≡ a + (k - a) = omega arith in
+      let i : k - a < b - a = omega arith in
+      ap (word-at t) q ∙ sym (part-word t a b (k - a) i) ∙ eqb-true _ _ (below-iff (length (part t a b)) (λ j. empty (word-at (part t a b) j)) .0 e (k - a) (omega (arith, length-part t a b h))),
+  λ z.
+      below-iff (length (part t a b)) (λ j. empty (word-at (part t a b) j)) .1 λ i l.
+      let u : i < b - a = omega (arith, length-part t a b h) in
+      eq-eqb _ _ (part-word t a b i u ∙ z (a + i) (omega arith) (omega arith)),
+)
 
 -- a part of no words is zero
 pub zero-none : (t : List ℕ) (a : ℕ) → a ≤ length t → all-zero (part t a a) ≡ true
@@ -94,32 +87,24 @@ above-before t n low up (suc g) l = up g (suc g) (omega arith) l
 -- ---- the free normal nodes
 
 module _ (t : List ℕ) (long : bodies-at ≤ length t) (few : count-of t ≤ group-limit) where
-  member-word : (g : ℕ) → g < count-of t → word-at (take (count-of t) (members-part t)) g ≡ members-of t g
-  member-word g h = getD-take (count-of t) (members-part t) g 0 h ∙ part-word t members-at links-at g (omega arith)
-
-  member-count : length (take (count-of t) (members-part t)) ≡ count-of t
-  member-count = length-take-le (count-of t) (members-part t) (omega (arith, length-part t members-at links-at (omega arith)))
-
   loose-tells : (i : ℕ) → In i (loose-of t) ↔ Free-normal t i
   loose-tells i = (
     λ m.
-        let p = and-eq-true-iff _ _ .0 (sym (has-diff (diff (roster (size-of t)) (hidden-of t)) (union-all (take (count-of t) (members-part t))) i) ∙ m) in
+        let p = and-eq-true-iff _ _ .0 (sym (has-diff (diff (roster (size-of t)) (hidden-of t)) (grouped-in t (count-of t)) i) ∙ m) in
         let q = and-eq-true-iff _ _ .0 (sym (has-diff (roster (size-of t)) (hidden-of t) i) ∙ p .0) in
         record {
           on-roster = ltb-true i (size-of t) (sym (has-roster (size-of t) i) ∙ q .0);
           normal = λ h. true≢false (sym h ∙ not-true _ (q .1));
-          in-none = λ g l h.
-              true≢false (sym (union-all-in (take (count-of t) (members-part t)) g i (ap (λ (w : ℕ). has w i) (member-word g l) ∙ h)) ∙ not-true _ (p .1));
+          in-none = λ g l h. true≢false (sym (grouped-has t long (count-of t) few g i l h) ∙ not-true _ (p .1));
         },
     λ f.
-        has-diff (diff (roster (size-of t)) (hidden-of t)) (union-all (take (count-of t) (members-part t))) i
+        has-diff (diff (roster (size-of t)) (hidden-of t)) (grouped-in t (count-of t)) i
         ∙ and-eq-true-iff _ _ .1 (
           has-diff (roster (size-of t)) (hidden-of t) i
               ∙ and-eq-true-iff _ _ .1 (has-roster (size-of t) i ∙ lt-ltb i (size-of t) (f .on-roster), ap not (unless _ (f .normal))),
           ap not (unless _ (λ h.
-              let u = union-all-out (take (count-of t) (members-part t)) i h in
-              let l : u .0 < count-of t = omega (arith, u .1, member-count) in
-              f .in-none (u .0) l (ap (λ (w : ℕ). has w i) (sym (member-word (u .0) l)) ∙ u .2))),
+              let u = grouped-by t long (count-of t) few i h in
+              f .in-none (u .0) (u .1) (u .2))),
         ),
   )
 

@@ -6,9 +6,10 @@ ghost use Rattle.entries.specs.Entries.{half-word};
 ghost use Rattle.semantics.specs.Sizes.{group-limit, names-per-group, bodies-at, table-words};
 ghost use Rattle.semantics.specs.Test.{sound};
 ghost use Rattle.free_test.specs.WireTests.{all-zero};
-ghost use Rattle.groups_test.specs.GroupTests.{part, head-right, unused-zero, loose-in, parts-right};
+ghost use Rattle.groups_test.specs.GroupTests.{part, head-right, unused-zero, rest-right, parts-right};
 use free_test::all_zero;
 use free_test::free_sound;
+use groups_test::Grouped;
 use layout::BODIES_AT;
 use layout::CONTENTS_AT;
 use layout::COUNT_AT;
@@ -62,13 +63,18 @@ fn unused_zero(t: &[u64], g: usize, cap: usize) -> bool
     all_zero(&t[contents..MEMBERS_AT]) & (all_zero(&t[members..LINKS_AT]) & bodies_zero(t, g, cap))
 }
 
-// The normal nodes of the roster in no s_group.
-fn loose(t: &[u64], g: usize, n: u32) -> u64
-    requires { ⌜ bodies-at ≤ length (now t) ⌝ }
-    ensures { λ r. ⌜ r ≡ loose-in (now (t .entry)) g n ⌝ }
+// Whether all that follows contents and members is right, for g s_groups of at most `cap` names, n nodes, and those of them in an s_group. In the order in which it stands.
+fn rest_sound(t: &[u64], g: usize, n: u32, cap: usize, grouped: u64) -> bool
+    requires { ⌜ (length (now t) ≡ table-words cap) × (g ≤ group-limit) ⌝ }
+    ensures { λ r. ⌜ r ≡ rest-right cap (now (t .entry)) g n grouped ⌝ }
 {
-    let grouped = nodes::union_all(&t[MEMBERS_AT..LINKS_AT], g);
-    nodes::diff(nodes::diff(nodes::roster(n), t[HIDDEN_AT]), grouped)
+    let loose = nodes::diff(nodes::diff(nodes::roster(n), t[HIDDEN_AT]), grouped);
+    let links = links_sound(&t[LINKS_AT..FREE_AT], n);
+    let met = groups_test::members_met(t, g);
+    let free = free_sound(&t[LINKS_AT..FREE_AT], &t[FREE_AT..BODIES_AT], loose, n);
+    let unused = unused_zero(t, g, cap);
+    let names = groups_test::names_sound(t, g, n, cap);
+    links & (met & (free & (unused & names)))
 }
 
 // Whether all that follows the head is right, for g s_groups of at most `cap` names and n nodes.
@@ -76,19 +82,10 @@ fn parts_sound(t: &[u64], g: usize, n: u32, cap: usize) -> bool
     requires { ⌜ (length (now t) ≡ table-words cap) × (g ≤ group-limit) ⌝ }
     ensures { λ r. ⌜ r ≡ parts-right cap (now (t .entry)) g n ⌝ }
 {
-    let contents = groups_test::contents_sound(t, g, cap);
-    let members = groups_test::members_sound(t, g, n);
-    let unused = unused_zero(t, g, cap);
-    let links = links_sound(&t[LINKS_AT..FREE_AT], n);
-    let met = groups_test::members_met(t, g);
-    let free = free_sound(
-        &t[LINKS_AT..FREE_AT],
-        &t[FREE_AT..BODIES_AT],
-        loose(t, g, n),
-        n,
-    );
-    let names = groups_test::names_sound(t, g, n, cap);
-    contents & (members & (unused & (links & (met & (free & names)))))
+    match groups_test::grouped_nodes(t, g, n, cap) {
+        Grouped::Nodes(grouped) => rest_sound(t, g, n, cap, grouped),
+        Grouped::Wrong => false,
+    }
 }
 
 // Whether the run is a sound table of s_groups that hold at most `cap` names each.

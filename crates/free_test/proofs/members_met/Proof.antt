@@ -2,7 +2,7 @@
 -- The measure is what is left. Assumes nothing.
 use borrow.Author.Needs.{needs}
 use mathlib.Core.Path.{_≡_, refl, sym, ap, _∙_}
-use mathlib.Core.Bool.{Bool, _&&_, and-true}
+use mathlib.Core.Bool.{_&&_}
 use Prim.Native.Nat.{ℕ, _<_, _^_}
 use native.Mathlib.Omega.{arith}
 use lib.ListN.{length}
@@ -11,7 +11,7 @@ use Rattle.nodes.specs.Sets.{node-limit, empty, union, diff, without-node, lowe
 use Rattle.nodes.specs.SetLaws.{subset-diff}
 use Rattle.nodes.specs.LowestNode.{lowest-lt, rest-less}
 use Rattle.free_test.specs.WireTests.{all-of, others-met, members-met}
-use Rattle.free_test.specs.Gather.{met-turn, of-none}
+use Rattle.free_test.specs.Gather.{met-turn, walked}
 use Rattle.free_test.proofs.members_met.Statement.{statement}
 use Rattle.free_test.proofs.members_met.Tie as tie
 
@@ -85,9 +85,7 @@ returns-2 c =
     let links = c .before .before .before .before .args .links .now in
     let set = c .before .before .before .before .args .set in
     rw (eq-eqb (length links) node-limit (omega arith))
-    (sym (and-true (empty (at .missed)))
-    ∙ ap (λ (t : Bool). empty (at .missed) && t) (sym (ap (λ (s : ℕ). all-of s (others-met links set)) (c .loop-test .left) ∙ of-none (others-met links set)))
-    ∙ at .inv .1)
+    (walked (empty (at .missed)) (at .left) (others-met links set) (c .loop-test .left) ∙ at .inv .1)
 
 pub members-met-spec : {M : Type 1} → statement M
 members-met-spec =

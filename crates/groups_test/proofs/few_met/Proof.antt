@@ -1,4 +1,4 @@
--- `groups_test::members_met` meets its contract: what is carried is the test of the s_groups passed.
+-- `groups_test::few_met` meets its contract: what is carried is the test of the s_groups passed.
 -- Assumes nothing.
 use borrow.Author.Needs.{needs}
 use mathlib.Core.Path.{_≡_, sym, ap, _∙_}
@@ -7,8 +7,8 @@ use native.Mathlib.Omega.{arith}
 use Rattle.free_test.specs.WireTests.{all-below}
 use Rattle.free_test.specs.Below.{below-none, below-step}
 use Rattle.groups_test.specs.GroupTests.{met-right}
-use Rattle.groups_test.proofs.members_met.Statement.{statement}
-use Rattle.groups_test.proofs.members_met.Tie as tie
+use Rattle.groups_test.proofs.few_met.Statement.{statement}
+use Rattle.groups_test.proofs.few_met.Tie as tie
 
 abbrev Inv-loop : tie.InvT-loop
 Inv-loop t g right₀ i₀ right i = (i ≤ g) × (right ≡ all-below i (met-right t))
@@ -57,8 +57,8 @@ returns c =
     let end : c .before .loop .i ≡ a .g = omega arith in
     c .before .loop .inv .1 ∙ ap (λ (n : ℕ). all-below n (met-right (a .t .now))) end
 
-pub members-met-spec : {M : Type 1} → statement M
-members-met-spec =
+pub few-met-spec : {M : Type 1} → statement M
+few-met-spec =
     tie.close
     (tie.spec
     Inv-loop

@@ -6,6 +6,7 @@ use layout::FREE_AT;
 use layout::GROUP_NAMES;
 use layout::LINKS_AT;
 use layout::MEMBERS_AT;
+use namespace_test::SLOT_COUNT;
 ghost use mathlib.Core.Path.{_≡_};
 ghost use Prim.Native.Nat.{_≤_};
 ghost use lib.ListN.{length};
@@ -92,17 +93,19 @@ pub fn members_met(t: &[u64], g: usize) -> bool
     }
 }
 
-// Whether the names of each are a sound namespace, with hosts among the first n nodes.
+// Whether the names of each are a sound namespace, with hosts among the first n nodes. All share the slots, and each has a stamp of its own.
 pub fn names_sound(t: &[u64], g: usize, n: u32, cap: usize) -> bool
     requires { ⌜ (length (now t) ≡ table-words cap) × (g ≤ group-limit) ⌝ }
     ensures { λ r. ⌜ r ≡ all-below g (names-right cap (now (t .entry)) n) ⌝ }
 {
+    let mut seen = [0u8; SLOT_COUNT];
     let mut i = 0;
     while i < g {
         let count = (t[CONTENTS_AT + i] / GROUP_NAMES) as usize;
         let start = BODIES_AT + cap * i;
         let end = start + cap;
-        if !namespace_test::is_sound(&t[start..end], count, n) {
+        let stamp = (i + 1) as u8;
+        if !namespace_test::is_sound(&t[start..end], count, n, &mut seen, stamp) {
             return false;
         }
         i += 1;

@@ -1,75 +1,97 @@
--- One round of turning the 64 x 64 digits of 64 words about their diagonal, at a place j of the column's number: 1, 2, 4, 8, 16 or 32. Row r and
--- column c is the digit c of word r. Assumes nothing.
-use mathlib.Core.Path.{_≡_, refl, sym, ap, ap₂, _∙_, subst}
+-- One round of turning rows of 64 digits about their diagonal, at a place j: 1, 2, 4, 8, 16 or 32. Row r and column c is the digit c of word r.
+-- Assumes nothing.
+use mathlib.Core.Path.{_≡_, refl, sym, ap, ap₂, _∙_}
 use mathlib.Core.Logic.{_⊎_, inl, inr, ⊎-elim}
-use mathlib.Core.Bool.{Bool, true, not, _&&_, _||_, Bool·beq, and-true, and-false, or-false}
+use mathlib.Core.Bool.{Bool, true, false, not, _&&_, Bool·beq, and-true, and-false}
 use mathlib.Core.List.{List}
 use Prim.Native.Nat.{ℕ, zero, suc, _+_, _-_, _*_, _/_, _%_, _^_, _≤_, _<_}
-use native.Mathlib.Nat.{div-add-mod'}
+use native.Mathlib.Nat.{add-div-left, div-add-mod', div-lt-iff-lt-mul, mod-lt}
 use native.Mathlib.Omega.{arith}
+use lib.Arith.{digits-lt, digits-div, digits-mod}
 use lib.Dec.{eqb}
-use lib.Pow.{shl-shr, shr-shr, shr-le, ones-lt}
-use lib.Bits.{and-mask}
+use lib.Pow.{pow-add, shl-shr, shr-shr}
+use lib.Bits.{bitAnd, bitXor, and-mask, shifted-even, xor-shr}
 use lib.ListN.{length, set, length-set}
 use lib.Seq.{getD-set-same, getD-set-other}
 use borrow.Author.Tests.{lt-ltb}
-use Rattle.nodes.specs.Sets.{node-limit, has, roster, union, inter, word-at}
+use Rattle.nodes.specs.Sets.{node-limit, has, roster, inter, word-at}
 use Rattle.nodes.specs.Bools.{by-lt}
-use Rattle.nodes.specs.SetLaws.{has-union, has-inter, has-diff, has-roster, union-lt, inter-le-l}
-use Rattle.nodes.specs.Words.{inter-not}
+use Rattle.nodes.specs.SetLaws.{has-inter, has-roster}
 use Rattle.free_test.specs.WireTests.{all-below}
 use Rattle.free_test.specs.Below.{below-iff, beq-iff}
+use Rattle.links_test.specs.Mutual.{even, even-xor}
 
--- half of the nodes
-abbrev pub half-limit : ℕ
-half-limit = node-limit / 2
+-- so many rows are turned at a time
+abbrev pub unit-rows : ℕ
+unit-rows = 16
 
--- the place j of the column c: 0 or 1
+-- so many pairs they make
+abbrev pub unit-pairs : ℕ
+unit-pairs = unit-rows / 2
+
+-- the place j of the number c: 0 or 1
 abbrev pub place : ℕ → ℕ → ℕ
 place c j = c / j % 2
 
--- the column c with d in its place j
+-- the number c with d in its place j
 abbrev pub placed : ℕ → ℕ → ℕ → ℕ
 placed c j d = (c / j / 2 * 2 + d) * j + c % j
 
--- mask has the columns whose place j is 0, where j is at most 32
+-- mask has the columns whose place j is 0
 pub record Half (j mask : ℕ) : Type 0 where
-  pub few : j ≤ half-limit
-  pub fits : mask < 2 ^ node-limit
+  pub some : 0 < j
+  pub few : j < node-limit
   pub low : all-below node-limit (λ c. Bool·beq (has mask c) (eqb (place c j) 0)) ≡ true
 
--- what a round at the place j makes of rows x and y: the first of the two new rows, and the second
+-- the pairs of rows at the place j fill a unit
+abbrev pub Within : ℕ → Type 0
+Within j = unit-pairs % j ≡ 0
+
+-- the digits in which rows x and y change sides in a round at the place j
+abbrev pub crossing : ℕ → ℕ → ℕ → ℕ → ℕ
+crossing j mask x y = bitAnd (bitXor (x / 2 ^ j) y) mask
+
+-- what the round makes of the two: the first of the new rows, and the second
 abbrev pub lower : ℕ → ℕ → ℕ → ℕ → ℕ
-lower j mask x y = union (inter x mask) (inter (y * 2 ^ j % 2 ^ node-limit) (roster node-limit - mask))
+lower j mask x y = bitXor x (crossing j mask x y * 2 ^ j % 2 ^ node-limit)
 
 abbrev pub upper : ℕ → ℕ → ℕ → ℕ → ℕ
-upper j mask x y = union (inter (x / 2 ^ j) mask) (inter y (roster node-limit - mask))
+upper j mask x y = bitXor y (crossing j mask x y)
 
--- what a round at the place j makes of the pair k of rows
-pub record Paired (j mask : ℕ) (from to : List ℕ) (k : ℕ) : Type 0 where
-  pub low : word-at to k ≡ lower j mask (word-at from (2 * k)) (word-at from (2 * k + 1))
-  pub high : word-at to (k + half-limit) ≡ upper j mask (word-at from (2 * k)) (word-at from (2 * k + 1))
-  pub low-fits : word-at to k < 2 ^ node-limit
-  pub high-fits : word-at to (k + half-limit) < 2 ^ node-limit
+-- row d of the two
+abbrev pub changed : ℕ → ℕ → ℕ → ℕ → ℕ → ℕ
+changed j mask x y zero = lower j mask x y
+changed j mask x y (suc d) = upper j mask x y
+
+-- the first row of the pair k, and the pair that row r is in
+abbrev pub row-of : ℕ → ℕ → ℕ
+row-of j k = k / j * (2 * j) + k % j
+
+abbrev pub pair-of : ℕ → ℕ → ℕ
+pair-of j r = r / j / 2 * j + r % j
 
 -- the pair k of rows done
-abbrev pub after-pair : ℕ → ℕ → List ℕ → List ℕ → ℕ → List ℕ
-after-pair j mask from to k =
-    set (set to k (lower j mask (word-at from (2 * k)) (word-at from (2 * k + 1)))) (k + half-limit)
-    (upper j mask (word-at from (2 * k)) (word-at from (2 * k + 1)))
+abbrev pub after-pair : ℕ → ℕ → List ℕ → ℕ → List ℕ
+after-pair j mask to k =
+    set (set to (row-of j k) (lower j mask (word-at to (row-of j k)) (word-at to (row-of j k + j)))) (row-of j k + j)
+    (upper j mask (word-at to (row-of j k)) (word-at to (row-of j k + j)))
 
--- a round at the place j: row k + 32 d and column c is what row 2k + e and the column with d in its place was, where e stood there
+-- at row r and column c the two have changed sides at the place j
+abbrev pub Crossed : ℕ → List ℕ → List ℕ → ℕ → ℕ → Type 0
+Crossed j from to r c = has (word-at to r) c ≡ has (word-at from (placed r j (place c j))) (placed c j (place r j))
+
+-- a round at the place j as far as the pair k: the other rows are as they were
+pub record Partly (j k : ℕ) (from to : List ℕ) : Type 0 where
+  pub long : length to ≡ unit-rows
+  pub done : (r c : ℕ) → r < unit-rows → c < node-limit → pair-of j r < k → Crossed j from to r c
+  pub left : (r : ℕ) → r < unit-rows → k ≤ pair-of j r → word-at to r ≡ word-at from r
+
+-- a whole round
 pub record Exchanged (j : ℕ) (from to : List ℕ) : Type 0 where
-  pub long : length to ≡ node-limit
-  pub fits : (r : ℕ) → r < node-limit → word-at to r < 2 ^ node-limit
-  pub at : (r c : ℕ) → r < node-limit → c < node-limit
-      → has (word-at to r) c ≡ has (word-at from (2 * (r % half-limit) + place c j)) (placed c j (r / half-limit))
+  pub long : length to ≡ unit-rows
+  pub at : (r c : ℕ) → r < unit-rows → c < node-limit → Crossed j from to r c
 
--- the words are the same
-abbrev pub same-words : List ℕ → List ℕ → Bool
-same-words a b = all-below node-limit (λ i. eqb (word-at a i) (word-at b i))
-
--- ---- shifts
+-- ---- digits of a word
 
 has-shr : (w s c : ℕ) → has (w / 2 ^ s) c ≡ has w (s + c)
 has-shr w s c = ap (λ (x : ℕ). eqb (x % 2) 1) (shr-shr w s c)
@@ -85,14 +107,27 @@ has-shl w s c l =
     has-mod (w * 2 ^ s) node-limit (s + c) l
     ∙ ap (λ (x : ℕ). eqb (x % 2) 1) (sym (shr-shr (w * 2 ^ s) s c) ∙ ap (λ (x : ℕ). x / 2 ^ c) (shl-shr w s))
 
--- `!mask`
-has-not : (mask c : ℕ) → mask < 2 ^ node-limit → c < node-limit → has (roster node-limit - mask) c ≡ not (has mask c)
-has-not mask c fits l =
-    let in-all : has (roster node-limit) c ≡ true = has-roster node-limit c ∙ lt-ltb c node-limit l in
-    sym (has-inter (roster node-limit) (roster node-limit - mask) c ∙ rw in-all)
-    ∙ ap (λ (w : ℕ). has w c) (inter-not (roster node-limit) mask (ones-lt node-limit) fits) ∙ has-diff (roster node-limit) mask c ∙ rw in-all
+-- below the shift there is nothing
+has-shl-below : (w d c : ℕ) → suc d + c < node-limit → has (w * 2 ^ (suc d + c) % 2 ^ node-limit) c ≡ false
+has-shl-below w d c l =
+    let parts : w * 2 ^ (suc d + c) ≡ w * 2 ^ suc d * 2 ^ c = omega (arith, ap (λ (x : ℕ). w * x) (pow-add 2 (suc d) c)) in
+    has-mod (w * 2 ^ (suc d + c)) node-limit c (omega arith)
+    ∙ ap (λ (x : ℕ). eqb (x % 2) 1) (ap (λ (x : ℕ). x / 2 ^ c) parts ∙ shl-shr (w * 2 ^ suc d) c)
+    ∙ ap (λ (x : ℕ). eqb x 1) (shifted-even w d)
 
--- ---- one pair of rows
+odd-even : (w : ℕ) → eqb (w % 2) 1 ≡ not (even w)
+odd-even w = go (w % 2) (omega arith)
+  where
+    go : (x : ℕ) → x < 2 → eqb x 1 ≡ not (eqb x 0)
+    go zero h = refl
+    go (suc zero) h = refl
+    go (suc (suc x)) h = absurd (omega arith)
+
+has-xor : (a b c : ℕ) → has (bitXor a b) c ≡ not (Bool·beq (has a c) (has b c))
+has-xor a b c =
+    ap (λ (x : ℕ). eqb (x % 2) 1) (xor-shr a b c) ∙ odd-even (bitXor (a / 2 ^ c) (b / 2 ^ c)) ∙ ap not (even-xor (a / 2 ^ c) (b / 2 ^ c))
+
+-- ---- places
 
 place-cases : (c j : ℕ) → (place c j ≡ 0) ⊎ (place c j ≡ 1)
 place-cases c j = go (place c j) (omega arith)
@@ -101,7 +136,7 @@ place-cases c j = go (place c j) (omega arith)
     go zero h = inl refl
     go (suc x) h = inr (omega arith)
 
--- a column is itself with its own place
+-- a number is itself with its own place
 placed-own : (c j d : ℕ) → place c j ≡ d → placed c j d ≡ c
 placed-own c j d e =
     ap (λ (x : ℕ). (c / j / 2 * 2 + x) * j + c % j) (sym e) ∙ ap (λ (x : ℕ). x * j + c % j) (div-add-mod' (c / j) 2) ∙ div-add-mod' c j
@@ -109,149 +144,238 @@ placed-own c j d e =
 placed-one : (c j : ℕ) → placed c j 1 ≡ j + placed c j 0
 placed-one c j = omega arith
 
-module _ (j mask x y c : ℕ) (h : Half j mask) (l : c < node-limit) where
-  masked : has mask c ≡ eqb (place c j) 0
-  masked = beq-iff (has mask c) (eqb (place c j) 0) .0 (below-iff node-limit (λ k. Bool·beq (has mask k) (eqb (place k j) 0)) .0 (h .low) c l)
+-- the place is what was put there
+place-placed : (c j d : ℕ) → 0 < j → d < 2 → place (placed c j d) j ≡ d
+place-placed c j d some l = ap (λ (x : ℕ). x % 2) (digits-div (c / j / 2 * 2 + d) (mod-lt c some)) ∙ omega arith
 
-  -- by the mask, a digit is from the one or the other
-  chosen : (v w d : ℕ) → place c j ≡ d
-      → has (union (inter v mask) (inter w (roster node-limit - mask))) c ≡ ((has v c && eqb d 0) || (has w c && not (eqb d 0)))
-  chosen v w d e =
-      has-union (inter v mask) (inter w (roster node-limit - mask)) c
-      ∙ ap₂ _||_ (has-inter v mask c) (has-inter w (roster node-limit - mask) c ∙ ap (λ (t : Bool). has w c && t) (has-not mask c (h .fits) l))
-      ∙ ap (λ (t : Bool). (has v c && t) || (has w c && not t)) (masked ∙ ap (λ (k : ℕ). eqb k 0) e)
+-- ---- one pair of rows
 
-  from-first : (v w : ℕ) → place c j ≡ 0 → has (union (inter v mask) (inter w (roster node-limit - mask))) c ≡ has v c
-  from-first v w e = chosen v w 0 e ∙ ap₂ _||_ (and-true (has v c)) (and-false (has w c)) ∙ or-false (has v c)
+-- what differs twice is as it was
+differs-back : (s t : Bool) → not (Bool·beq t (not (Bool·beq s t))) ≡ s
+differs-back true true = refl
+differs-back true false = refl
+differs-back false true = refl
+differs-back false false = refl
 
-  from-second : (v w : ℕ) → place c j ≡ 1 → has (union (inter v mask) (inter w (roster node-limit - mask))) c ≡ has w c
-  from-second v w e = chosen v w 1 e ∙ ap₂ _||_ (and-false (has v c)) (and-true (has w c))
+differs-on : (s t : Bool) → not (Bool·beq s (not (Bool·beq s t))) ≡ t
+differs-on true true = refl
+differs-on true false = refl
+differs-on false true = refl
+differs-on false false = refl
 
-  lower-first : place c j ≡ 0 → has (lower j mask x y) c ≡ has x (placed c j 0)
-  lower-first e = from-first x (y * 2 ^ j % 2 ^ node-limit) e ∙ ap (has x) (sym (placed-own c j 0 e))
+differs-none : (t : Bool) → not (Bool·beq t false) ≡ t
+differs-none true = refl
+differs-none false = refl
 
-  lower-second : place c j ≡ 1 → has (lower j mask x y) c ≡ has y (placed c j 0)
-  lower-second e =
-      let own : j + placed c j 0 ≡ c = sym (placed-one c j) ∙ placed-own c j 1 e in
-      from-second x (y * 2 ^ j % 2 ^ node-limit) e ∙ ap (has (y * 2 ^ j % 2 ^ node-limit)) (sym own) ∙ has-shl y j (placed c j 0) (omega arith)
+module _ (j mask x y : ℕ) (h : Half j mask) where
+  cross : ℕ
+  cross = crossing j mask x y
 
-  upper-first : place c j ≡ 0 → has (upper j mask x y) c ≡ has x (placed c j 1)
-  upper-first e =
+  masked : (c d : ℕ) → c < node-limit → place c j ≡ d → has cross c ≡ (not (Bool·beq (has x (j + c)) (has y c)) && eqb d 0)
+  unfolding cross inter
+  masked c d l e =
+      let columns = below-iff node-limit (λ k. Bool·beq (has mask k) (eqb (place k j) 0)) .0 (h .low) c l in
+      has-inter (bitXor (x / 2 ^ j) y) mask c
+      ∙ ap₂ _&&_ (has-xor (x / 2 ^ j) y c ∙ ap (λ (t : Bool). not (Bool·beq t (has y c))) (has-shr x j c))
+      (beq-iff (has mask c) (eqb (place c j) 0) .0 columns ∙ ap (λ (k : ℕ). eqb k 0) e)
+
+  -- digits change sides in the columns whose place j is 0
+  cross-on : (c : ℕ) → c < node-limit → place c j ≡ 0 → has cross c ≡ not (Bool·beq (has x (j + c)) (has y c))
+  cross-on c l e = masked c 0 l e ∙ and-true (not (Bool·beq (has x (j + c)) (has y c)))
+
+  cross-off : (c : ℕ) → c < node-limit → place c j ≡ 1 → has cross c ≡ false
+  cross-off c l e = masked c 1 l e ∙ and-false (not (Bool·beq (has x (j + c)) (has y c)))
+
+  upper-first : (c : ℕ) → c < node-limit → place c j ≡ 0 → has (upper j mask x y) c ≡ has x (placed c j 1)
+  unfolding cross
+  upper-first c l e =
       let own : j + c ≡ placed c j 1 = ap (λ (k : ℕ). j + k) (sym (placed-own c j 0 e)) ∙ sym (placed-one c j) in
-      from-first (x / 2 ^ j) y e ∙ has-shr x j c ∙ ap (has x) own
+      has-xor y cross c ∙ ap (λ (t : Bool). not (Bool·beq (has y c) t)) (cross-on c l e) ∙ differs-back (has x (j + c)) (has y c) ∙ ap (has x) own
 
-  upper-second : place c j ≡ 1 → has (upper j mask x y) c ≡ has y (placed c j 1)
-  upper-second e = from-second (x / 2 ^ j) y e ∙ ap (has y) (sym (placed-own c j 1 e))
+  upper-second : (c : ℕ) → c < node-limit → place c j ≡ 1 → has (upper j mask x y) c ≡ has y (placed c j 1)
+  unfolding cross
+  upper-second c l e =
+      has-xor y cross c ∙ ap (λ (t : Bool). not (Bool·beq (has y c) t)) (cross-off c l e) ∙ differs-none (has y c)
+      ∙ ap (has y) (sym (placed-own c j 1 e))
+
+  -- what the first row takes in, j columns further on
+  moved : ℕ
+  moved = cross * 2 ^ j % 2 ^ node-limit
+
+  moved-below : (c : ℕ) → c < node-limit → c < j → has moved c ≡ false
+  unfolding moved
+  moved-below c l lt =
+      let back : suc (j - suc c) + c ≡ j = omega arith in
+      rw back at (has-shl-below cross (j - suc c) c (omega arith))
+
+  moved-off : (c : ℕ) → c < node-limit → place c j ≡ 0 → j ≤ c → has moved c ≡ false
+  unfolding moved
+  moved-off c l e ge =
+      let back : j + (c - j) ≡ c = omega arith in
+      let before : place (c - j) j ≡ 1 = omega (arith, ap (λ (k : ℕ). k / j) back, add-div-left (c - j) (h .some)) in
+      rw back at (has-shl cross j (c - j) (omega arith) ∙ cross-off (c - j) (omega arith) before)
+
+  lower-first : (c : ℕ) → c < node-limit → place c j ≡ 0 → has (lower j mask x y) c ≡ has x (placed c j 0)
+  unfolding cross moved
+  lower-first c l e =
+      has-xor x moved c
+      ∙ ap (λ (t : Bool). not (Bool·beq (has x c) t)) (⊎-elim (moved-below c l) (moved-off c l e) (by-lt c j))
+      ∙ differs-none (has x c) ∙ ap (has x) (sym (placed-own c j 0 e))
+
+  lower-second : (c : ℕ) → c < node-limit → place c j ≡ 1 → has (lower j mask x y) c ≡ has y (placed c j 0)
+  unfolding cross moved
+  lower-second c l e =
+      let own : j + placed c j 0 ≡ c = sym (placed-one c j) ∙ placed-own c j 1 e in
+      let in-first : has moved c ≡ not (Bool·beq (has x c) (has y (placed c j 0))) =
+      rw own at (has-shl cross j (placed c j 0) (omega arith) ∙ cross-on (placed c j 0) (omega arith) (place-placed c j 0 (h .some) (omega arith))) in
+      has-xor x moved c ∙ ap (λ (t : Bool). not (Bool·beq (has x c) t)) in-first ∙ differs-on (has x c) (has y (placed c j 0))
+
+  -- the digits of the new rows, where w has the old ones by their place
+  pub changed-at : (w : ℕ → ℕ) → x ≡ w 0 → y ≡ w 1 → (d c : ℕ) → d < 2 → c < node-limit
+      → has (changed j mask x y d) c ≡ has (w (place c j)) (placed c j d)
+  changed-at w first second zero c ld lc =
+      ⊎-elim (λ e. lower-first c lc e ∙ ap (λ (v : ℕ). has v (placed c j 0)) (first ∙ ap w (sym e)))
+      (λ e. lower-second c lc e ∙ ap (λ (v : ℕ). has v (placed c j 0)) (second ∙ ap w (sym e)))
+      (place-cases c j)
+  changed-at w first second (suc zero) c ld lc =
+      ⊎-elim (λ e. upper-first c lc e ∙ ap (λ (v : ℕ). has v (placed c j 1)) (first ∙ ap w (sym e)))
+      (λ e. upper-second c lc e ∙ ap (λ (v : ℕ). has v (placed c j 1)) (second ∙ ap w (sym e)))
+      (place-cases c j)
+  changed-at w first second (suc (suc d)) c ld lc = absurd (omega arith)
+
+-- ---- the pairs of rows of a unit
+
+module _ (j : ℕ) (some : 0 < j) where
+  -- row d of the pair k, by its digits at j
+  row-digits : (k d : ℕ) → row-of j k + d * j ≡ (k / j * 2 + d) * j + k % j
+  row-digits k d = omega arith
+
+  pair-row : (k d : ℕ) → d < 2 → pair-of j (row-of j k + d * j) ≡ k
+  pair-row k d l =
+      ap (λ (r : ℕ). r / j / 2 * j + r % j) (row-digits k d)
+      ∙ ap₂ (λ (q m : ℕ). q / 2 * j + m) (digits-div (k / j * 2 + d) (mod-lt k some)) (digits-mod (k / j * 2 + d) (mod-lt k some))
+      ∙ ap (λ (q : ℕ). q * j + k % j) (omega arith) ∙ div-add-mod' k j
+
+  -- the rows of the pair that row r is in
+  row-pair : (r d : ℕ) → row-of j (pair-of j r) + d * j ≡ placed r j d
+  row-pair r d =
+      row-digits (pair-of j r) d
+      ∙ ap₂ (λ (q m : ℕ). (q * 2 + d) * j + m) (digits-div (r / j / 2) (mod-lt r some)) (digits-mod (r / j / 2) (mod-lt r some))
+
+  module _ (within : Within j) where
+    -- so many pairs at a time stand side by side
+    blocks : unit-pairs / j * j ≡ unit-pairs
+    blocks = omega (arith, div-add-mod' unit-pairs j)
+
+    pub row-lt : (k : ℕ) → k < unit-pairs → row-of j k + j < unit-rows
+    row-lt k l =
+        let q : k / j < unit-pairs / j = div-lt-iff-lt-mul some .1 (omega (arith, blocks)) in
+        omega (arith, row-digits k 1, digits-lt {q = k / j * 2 + 1} {m = unit-pairs / j * 2} {r = k % j} {c = j} (omega arith) (mod-lt k some), blocks)
+
+    row-high : (r : ℕ) → r < unit-rows → r / j < unit-pairs / j * 2
+    row-high r l = div-lt-iff-lt-mul some .1 (omega (arith, blocks))
+
+    pair-lt : (r : ℕ) → r < unit-rows → pair-of j r < unit-pairs
+    pair-lt r l =
+        let q = row-high r l in
+        omega (arith, digits-lt {q = r / j / 2} {m = unit-pairs / j} {r = r % j} {c = j} (omega arith) (mod-lt r some), blocks)
+
+    placed-lt : (r d : ℕ) → r < unit-rows → d < 2 → placed r j d < unit-rows
+    placed-lt r d lr ld =
+        let q = row-high r lr in
+        omega (arith, digits-lt {q = r / j / 2 * 2 + d} {m = unit-pairs / j * 2} {r = r % j} {c = j} (omega arith) (mod-lt r some), blocks)
 
 -- ---- a round
 
-module _ (j mask : ℕ) (from to : List ℕ) (k : ℕ) (small : (i : ℕ) → word-at from i < 2 ^ node-limit) where
-  first : ℕ
-  first = lower j mask (word-at from (2 * k)) (word-at from (2 * k + 1))
+-- before the first pair every row is as it was
+pub begun : (j : ℕ) (ws : List ℕ) → length ws ≡ unit-rows → Partly j 0 ws ws
+begun j ws long = record { long = long; done = λ r c lr lc l. absurd (omega arith); left = λ r lr l. refl }
 
-  second : ℕ
-  second = upper j mask (word-at from (2 * k)) (word-at from (2 * k + 1))
+module _ (j mask : ℕ) (from to : List ℕ) (k : ℕ) (h : Half j mask) (within : Within j) (lk : k < unit-pairs) (was : Partly j k from to) where
+  -- the two rows of the pair
+  low : ℕ
+  low = row-of j k
+
+  high : ℕ
+  high = row-of j k + j
+
+  -- what they become, and the rows with both in place
+  new : ℕ → ℕ
+  new = changed j mask (word-at to low) (word-at to high)
 
   next : List ℕ
-  next = set (set to k first) (k + half-limit) second
+  next = set (set to low (new 0)) high (new 1)
 
-  first-fits : first < 2 ^ node-limit
-  unfolding first
-  first-fits =
-      let shifted = word-at from (2 * k + 1) * 2 ^ j % 2 ^ node-limit in
-      union-lt node-limit (inter (word-at from (2 * k)) mask) (inter shifted (roster node-limit - mask))
-      (omega (arith, small (2 * k), inter-le-l (word-at from (2 * k)) mask)) (omega (arith, inter-le-l shifted (roster node-limit - mask)))
+  high-lt : high < length to
+  unfolding high
+  high-lt = omega (arith, row-lt j (h .some) within k lk, was .long)
 
-  second-fits : second < 2 ^ node-limit
-  unfolding second
-  second-fits =
-      let shifted = word-at from (2 * k) / 2 ^ j in
-      union-lt node-limit (inter shifted mask) (inter (word-at from (2 * k + 1)) (roster node-limit - mask))
-      (omega (arith, small (2 * k), inter-le-l shifted mask, shr-le (word-at from (2 * k)) j))
-      (omega (arith, small (2 * k + 1), inter-le-l (word-at from (2 * k + 1)) (roster node-limit - mask)))
+  next-low : word-at next low ≡ new 0
+  unfolding low high next
+  next-low =
+      getD-set-other (set to low (new 0)) high low (new 1) 0 (λ e. omega (arith, h .some)) ∙ getD-set-same to low (new 0) 0 (omega (arith, high-lt))
 
-  next-other : (i : ℕ) → (i ≡ k → ⊥) → (i ≡ k + half-limit → ⊥) → word-at next i ≡ word-at to i
+  next-high : word-at next high ≡ new 1
   unfolding next
-  next-other i p q = getD-set-other (set to k first) (k + half-limit) i second 0 q ∙ getD-set-other to k i first 0 p
+  next-high = getD-set-same (set to low (new 0)) high (new 1) 0 (simp length-set high-lt)
 
-  next-low : length to ≡ node-limit → k < half-limit → word-at next k ≡ first
-  unfolding next
-  next-low long l =
-      getD-set-other (set to k first) (k + half-limit) k second 0 (λ e. omega arith) ∙ getD-set-same to k first 0 (omega arith)
+  -- the rows of other pairs
+  next-other : (r : ℕ) → (pair-of j r ≡ k → ⊥) → word-at next r ≡ word-at to r
+  unfolding low high next
+  next-other r other =
+      let off : (d : ℕ) → d < 2 → r ≡ row-of j k + d * j → ⊥ = λ d l e. other (ap (pair-of j) e ∙ pair-row j (h .some) k d l) in
+      getD-set-other (set to low (new 0)) high r (new 1) 0 (λ e. off 1 (omega arith) (omega arith))
+      ∙ getD-set-other to low r (new 0) 0 (λ e. off 0 (omega arith) (omega arith))
 
-  next-high : length to ≡ node-limit → k < half-limit → word-at next (k + half-limit) ≡ second
-  unfolding next
-  next-high long l = getD-set-same (set to k first) (k + half-limit) second 0 (simp length-set (omega arith))
+  -- a row of the pair
+  module _ (r c : ℕ) (lr : r < unit-rows) (lc : c < node-limit) (e : pair-of j r ≡ k) where
+    rows : (d : ℕ) → row-of j k + d * j ≡ placed r j d
+    rows d = ap (λ (i : ℕ). row-of j i + d * j) (sym e) ∙ row-pair j (h .some) r d
+
+    low-is : low ≡ placed r j 0
+    unfolding low
+    low-is = omega (arith, rows 0)
+
+    high-is : high ≡ placed r j 1
+    unfolding high
+    high-is = omega (arith, rows 1)
+
+    -- the old rows, by their place
+    old : (d : ℕ) → d < 2 → word-at to (placed r j d) ≡ word-at from (placed r j d)
+    old d l =
+        let own : pair-of j (placed r j d) ≡ k = ap (pair-of j) (sym (rows d)) ∙ pair-row j (h .some) k d l in
+        was .left (placed r j d) (placed-lt j (h .some) within r d lr l) (omega arith)
+
+    first : word-at to low ≡ word-at from (placed r j 0)
+    first = ap (word-at to) low-is ∙ old 0 (omega arith)
+
+    second : word-at to high ≡ word-at from (placed r j 1)
+    second = ap (word-at to) high-is ∙ old 1 (omega arith)
+
+    next-row : word-at next r ≡ new (place r j)
+    next-row =
+        ⊎-elim (λ p. ap (word-at next) (sym (low-is ∙ placed-own r j 0 p)) ∙ next-low ∙ ap new (sym p))
+        (λ p. ap (word-at next) (sym (high-is ∙ placed-own r j 1 p)) ∙ next-high ∙ ap new (sym p))
+        (place-cases r j)
+
+    turned : Crossed j from next r c
+    unfolding new
+    turned =
+        ap (λ (w : ℕ). has w c) next-row
+        ∙ changed-at j mask (word-at to low) (word-at to high) h (λ d. word-at from (placed r j d)) first second (place r j) c (omega arith) lc
 
   -- one pair more
-  pub paired-more : length to ≡ node-limit → k < half-limit → ((i : ℕ) → i < k → Paired j mask from to i)
-      → (i : ℕ) → i < k + 1
-      → Paired j mask from (after-pair j mask from to k) i
-  unfolding first second next
-  paired-more long l done i m =
-      ⊎-elim (λ lt.
-      let low = next-other i (λ e. omega arith) (λ e. omega arith) in
-      let high = next-other (i + half-limit) (λ e. omega arith) (λ e. omega arith) in
-      record {
-        low = low ∙ done i lt .low;
-        high = high ∙ done i lt .high;
-        low-fits = rw low (done i lt .low-fits);
-        high-fits = rw high (done i lt .high-fits);
-      })
-      (λ ge.
-      let e : k ≡ i = omega arith in
-      let own : Paired j mask from next k = record {
-        low = next-low long l;
-        high = next-high long l;
-        low-fits = rw (next-low long l) first-fits;
-        high-fits = rw (next-high long l) second-fits;
-      } in
-      subst (λ (n : ℕ). Paired j mask from next n) e own)
-      (by-lt i k)
+  pub one-more : Partly j (k + 1) from (after-pair j mask to k)
+  unfolding low high new next
+  one-more = record {
+    long = simp length-set (was .long);
+    done = λ r c lr lc l.
+        ⊎-elim (λ lt. ap (λ (w : ℕ). has w c) (next-other r (λ e. omega arith)) ∙ was .done r c lr lc lt)
+        (λ ge. turned r c lr lc (omega arith))
+        (by-lt (pair-of j r) k);
+    left = λ r lr l. next-other r (λ e. omega arith) ∙ was .left r lr (omega arith);
+  }
 
-module _ (j mask : ℕ) (from to : List ℕ) (h : Half j mask) (long : length to ≡ node-limit)
-    (pairs : (k : ℕ) → k < half-limit → Paired j mask from to k) where
-  -- the new rows, by the pair that they are from
-  low-at : (k c : ℕ) → k < half-limit → c < node-limit → has (word-at to k) c ≡ has (word-at from (2 * k + place c j)) (placed c j 0)
-  low-at k c lk lc =
-      ap (λ (w : ℕ). has w c) (pairs k lk .low)
-      ∙ ⊎-elim (λ e. lower-first j mask (word-at from (2 * k)) (word-at from (2 * k + 1)) c h lc e
-      ∙ ap (λ (i : ℕ). has (word-at from i) (placed c j 0)) (omega arith))
-      (λ e. lower-second j mask (word-at from (2 * k)) (word-at from (2 * k + 1)) c h lc e
-      ∙ ap (λ (i : ℕ). has (word-at from (2 * k + i)) (placed c j 0)) (sym e))
-      (place-cases c j)
-
-  high-at : (k c : ℕ) → k < half-limit → c < node-limit
-      → has (word-at to (k + half-limit)) c ≡ has (word-at from (2 * k + place c j)) (placed c j 1)
-  high-at k c lk lc =
-      ap (λ (w : ℕ). has w c) (pairs k lk .high)
-      ∙ ⊎-elim (λ e. upper-first j mask (word-at from (2 * k)) (word-at from (2 * k + 1)) c h lc e
-      ∙ ap (λ (i : ℕ). has (word-at from i) (placed c j 1)) (omega arith))
-      (λ e. upper-second j mask (word-at from (2 * k)) (word-at from (2 * k + 1)) c h lc e
-      ∙ ap (λ (i : ℕ). has (word-at from (2 * k + i)) (placed c j 1)) (sym e))
-      (place-cases c j)
-
-  row-at : (r c : ℕ) → r < node-limit → c < node-limit
-      → has (word-at to r) c ≡ has (word-at from (2 * (r % half-limit) + place c j)) (placed c j (r / half-limit))
-  row-at r c lr lc =
-      ⊎-elim (λ lo.
-      let k : r ≡ r % half-limit = omega arith in
-      let d : 0 ≡ r / half-limit = omega arith in
-      low-at r c lo lc ∙ ap₂ (λ (k d : ℕ). has (word-at from (2 * k + place c j)) (placed c j d)) k d)
-      (λ hi.
-      let k : r ≡ r % half-limit + half-limit = omega arith in
-      let d : 1 ≡ r / half-limit = omega arith in
-      ap (λ (i : ℕ). has (word-at to i) c) k ∙ high-at (r % half-limit) c (omega arith) lc
-      ∙ ap (λ (d : ℕ). has (word-at from (2 * (r % half-limit) + place c j)) (placed c j d)) d)
-      (by-lt r half-limit)
-
-  row-fits : (r : ℕ) → r < node-limit → word-at to r < 2 ^ node-limit
-  row-fits r lr =
-      ⊎-elim (λ lo. pairs r lo .low-fits)
-      (λ hi.
-      let back : r - half-limit + half-limit ≡ r = omega arith in
-      rw back at (pairs (r - half-limit) (omega arith) .high-fits))
-      (by-lt r half-limit)
-
-  pub exchanged : Exchanged j from to
-  exchanged = record { long = long; fits = row-fits; at = row-at }
+-- after the last pair every row is done
+pub ended : (j : ℕ) (from to : List ℕ) → 0 < j → Within j → Partly j unit-pairs from to → Exchanged j from to
+ended j from to some within p = record { long = p .long; at = λ r c lr lc. p .done r c lr lc (pair-lt j some within r lr) }

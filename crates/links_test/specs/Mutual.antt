@@ -60,7 +60,7 @@ even-or a b =
     (λ e. let both = and-eq-true-iff (even a) (even b) .0 e in
     eq-eqb (bitOr a b % 2) 0 (omega (arith, or-step a b, eqb-true (a % 2) 0 (both .0), eqb-true (b % 2) 0 (both .1))))
 
-even-xor : (a b : ℕ) → even (bitXor a b) ≡ Bool·beq (eqb (a % 2) 1) (eqb (b % 2) 1)
+pub even-xor : (a b : ℕ) → even (bitXor a b) ≡ Bool·beq (eqb (a % 2) 1) (eqb (b % 2) 1)
 even-xor a b =
     let same = digits (a % 2) (b % 2) (omega arith) (omega arith) in
     let low : bitXor a b % 2 ≡ differ (a % 2) (b % 2) = omega (arith, xor-step a b, same .0) in

@@ -1,170 +1,280 @@
--- The 64 x 64 digits of 64 words turned about their diagonal: six rounds, after which row and column have changed places. Assumes nothing.
+-- The 64 x 64 digits of 64 words turned about their diagonal: 16 rows at a time by four rounds, each 16 columns by themselves, and then all by the
+-- rounds at 16 and 32. Assumes nothing.
 use mathlib.Core.Path.{_≡_, refl, sym, ap, ap₂, _∙_}
-use mathlib.Core.Logic.{_⊎_, ⊎-elim}
+use mathlib.Core.Logic.{_⊎_, inl, inr, ⊎-elim}
+use mathlib.Core.Bool.{Bool, true, _&&_, and-assoc}
 use mathlib.Core.List.{List}
-use Prim.Native.Nat.{ℕ, _+_, _-_, _*_, _/_, _%_, _^_, _<_}
-use native.Mathlib.Nat.{div-add-mod', div-div-eq-div-mul, div-lt-iff-lt-mul, mod-lt, mul-comm}
+use Prim.Native.Nat.{ℕ, _+_, _-_, _*_, _/_, _%_, _^_, _≤_, _<_}
 use native.Mathlib.Omega.{arith}
-use lib.Arith.{digits-lt, digits-div, digits-mod, mod-mul}
-use Rattle.nodes.specs.Sets.{node-limit, has, word-at}
+use lib.Dec.{eqb, leb}
+use lib.Bits.{bitOr, bitXor}
+use lib.ListN.{length, set, length-set}
+use lib.Seq.{getD-set-same, getD-set-other}
+use Rattle.nodes.specs.Sets.{node-limit, has, empty, union, word-at}
 use Rattle.nodes.specs.Bools.{by-lt, test-ext}
 use Rattle.nodes.specs.SetLaws.{has-above, has-ext}
-use Rattle.free_test.specs.WireTests.{all-below, own-mutual}
+use Rattle.free_test.specs.WireTests.{all-below, both-ways, own-mutual}
 use Rattle.free_test.specs.Below.{eqb-iff, tests}
-use Rattle.links_test.specs.Exchange.{half-limit, place, placed, Half, Exchanged, same-words}
+use Rattle.free_test.specs.Gather.{empty-union, empty-xor}
+use Rattle.links_test.specs.Exchange.{unit-rows, place, placed, Half, changed, changed-at, Exchanged}
 
--- ---- round after round
+-- so many units there are
+abbrev pub units : ℕ
+units = node-limit / unit-rows
 
--- after rounds at all places below j, where j w is 64: the column's places below j and the row's upper places have changed sides
-record Turned (j w : ℕ) (from to : List ℕ) : Type 0 where
-  at : (r c : ℕ) → r < node-limit → c < node-limit → has (word-at to r) c ≡ has (word-at from (r % w * j + c % j)) (c / j * j + r / w)
+-- the rows of turned from start on are those of links, turned, each 16 columns by themselves
+pub record TurnedAt (start : ℕ) (links turned : List ℕ) : Type 0 where
+  pub at : (k c : ℕ) → k < unit-rows → c < node-limit
+      → has (word-at turned (start + k)) c ≡ has (word-at links (start + c % unit-rows)) (c / unit-rows * unit-rows + k)
 
-unturned : (ws : List ℕ) → Turned 1 node-limit ws ws
-unturned ws = record {
-  at = λ r c lr lc.
-      let row : r ≡ r % node-limit * 1 + c % 1 = omega arith in
-      let col : c ≡ c / 1 * 1 + r / node-limit = omega arith in
-      ap₂ (λ (i k : ℕ). has (word-at ws i) k) row col;
+-- k words from start on are those of f, and the others are as before
+pub record Copied (start k : ℕ) (f : ℕ → ℕ) (before after : List ℕ) : Type 0 where
+  pub long : length after ≡ length before
+  pub here : (i : ℕ) → i < k → word-at after (start + i) ≡ f i
+  pub rest : (i : ℕ) → (i < start) ⊎ (start + k ≤ i) → word-at after i ≡ word-at before i
+
+-- one unit is turned, and the other rows are as before
+pub record UnitTurned (start : ℕ) (links before after : List ℕ) : Type 0 where
+  pub long : length after ≡ length before
+  pub here : TurnedAt start links after
+  pub rest : (i : ℕ) → (i < start) ⊎ (start + unit-rows ≤ i) → word-at after i ≡ word-at before i
+
+-- the first n units are turned
+abbrev pub TurnedBelow : ℕ → List ℕ → List ℕ → Type 0
+TurnedBelow n links turned = (u : ℕ) → u < n → TurnedAt (unit-rows * u) links turned
+
+-- the connections of the nodes k, 16 + k, 32 + k and 48 + k are mutual
+abbrev pub units-mutual : List ℕ → ℕ → Bool
+units-mutual links k = all-below units (λ u. all-below node-limit (both-ways links (unit-rows * u + k)))
+
+-- ---- words copied one by one
+
+pub none-copied : (start : ℕ) (f : ℕ → ℕ) (ws : List ℕ) → Copied start 0 f ws ws
+none-copied start f ws = record { long = refl; here = λ i l. absurd (omega arith); rest = λ i o. refl }
+
+pub one-copied : (start k n : ℕ) (f : ℕ → ℕ) (before after : List ℕ) → n ≡ start + k → n < length after → Copied start k f before after
+    → Copied start (k + 1) f before (set after n (f k))
+one-copied start k n f before after e l was = record {
+  long = simp length-set (was .long);
+  here = λ i m.
+      ⊎-elim (λ lt. getD-set-other after n (start + i) (f k) 0 (λ q. omega arith) ∙ was .here i lt)
+      (λ ge.
+      let own : start + i ≡ n = omega arith in
+      let last : k ≡ i = omega arith in
+      rw own (getD-set-same after n (f k) 0 l) ∙ ap f last)
+      (by-lt i k);
+  rest = λ i o.
+      getD-set-other after n i (f k) 0 (λ q. ⊎-elim (λ lt. omega arith) (λ ge. omega arith) o)
+      ∙ was .rest i (⊎-elim (λ lt. inl lt) (λ ge. inr (omega arith)) o);
 }
 
--- the numbers of a round: before it, row r and column c stood at `row` and `col`
-module _ (j w r c : ℕ) (pj : 0 < j) (pw : 0 < w) (whole : j * w ≡ half-limit) (lr : r < node-limit) (lc : c < node-limit) where
-  row : ℕ
-  row = 2 * (r % half-limit) + place c j
+-- ---- the rounds of a unit
 
-  col : ℕ
-  col = placed c j (r / half-limit)
+-- where row r and column c stood before the rounds at the places from j to 8
+abbrev row-before : ℕ → ℕ → ℕ → ℕ
+row-before j r c = c % unit-rows / j * j + r % j
 
-  -- the row's number within its half
-  inner : ℕ
-  inner = r % half-limit
+abbrev col-before : ℕ → ℕ → ℕ → ℕ
+col-before j r c = c / unit-rows * unit-rows + r / j * j + c % j
 
-  -- the column's upper places, with the row's half below them
-  outer : ℕ
-  outer = c / j / 2 * 2 + r / half-limit
+-- those rounds are done
+record Turned (j : ℕ) (from to : List ℕ) : Type 0 where
+  at : (r c : ℕ) → r < unit-rows → c < node-limit → has (word-at to r) c ≡ has (word-at from (row-before j r c)) (col-before j r c)
 
-  row-lt : row < node-limit
-  unfolding row
-  row-lt = omega arith
+-- the round at j is one more, for row r and column c
+abbrev follows : ℕ → ℕ → ℕ → Bool
+follows j r c =
+    let row = placed r j (place c j) in
+    let col = placed c j (place r j) in
+    leb (row + 1) unit-rows && leb (col + 1) node-limit
+    && eqb (row-before (2 * j) row col) (row-before j r c) && eqb (col-before (2 * j) row col) (col-before j r c)
 
-  col-lt : col < node-limit
-  unfolding col outer
-  col-lt =
-      let most : c / j < w * 2 = div-lt-iff-lt-mul pj .1 (omega arith) in
-      let q : outer < w * 2 = omega arith in
-      omega (arith, digits-lt {q = outer} {m = w * 2} {r = c % j} {c = j} q (mod-lt c pj))
-
-  col-div : col / j ≡ outer
-  unfolding col outer
-  col-div = digits-div (c / j / 2 * 2 + r / half-limit) (mod-lt c pj)
-
-  col-mod : col % j ≡ c % j
-  unfolding col outer
-  col-mod = digits-mod (c / j / 2 * 2 + r / half-limit) (mod-lt c pj)
-
-  -- the row, split at w
-  row-split : row ≡ inner / w * (2 * w) + (2 * (inner % w) + place c j)
-  unfolding row inner
-  row-split = omega (arith, div-add-mod' (r % half-limit) w)
-
-  row-low : 2 * (inner % w) + place c j < 2 * w
-  row-low = omega (arith, mod-lt inner pw)
-
-  row-div : row / (2 * w) ≡ inner / w
-  row-div = ap (λ (x : ℕ). x / (2 * w)) row-split ∙ digits-div (inner / w) row-low
-
-  row-mod : row % (2 * w) ≡ 2 * (inner % w) + place c j
-  row-mod = ap (λ (x : ℕ). x % (2 * w)) row-split ∙ digits-mod (inner / w) row-low
-
-  -- the row after the round, split at w
-  r-split : r ≡ (r / half-limit * j + inner / w) * w + inner % w
-  unfolding inner
-  r-split = omega (arith, div-add-mod' (r % half-limit) w, ap (λ (x : ℕ). r / half-limit * x) whole)
-
-  r-div : r / w ≡ r / half-limit * j + inner / w
-  r-div = ap (λ (x : ℕ). x / w) r-split ∙ digits-div (r / half-limit * j + inner / w) (mod-lt inner pw)
-
-  r-mod : r % w ≡ inner % w
-  r-mod = ap (λ (x : ℕ). x % w) r-split ∙ digits-mod (r / half-limit * j + inner / w) (mod-lt inner pw)
-
-  c-div : c / (2 * j) ≡ c / j / 2
-  c-div = ap (λ (x : ℕ). c / x) (mul-comm 2 j) ∙ sym (div-div-eq-div-mul c j 2)
-
-  c-mod : c % (2 * j) ≡ place c j * j + c % j
-  c-mod = mod-mul c (omega arith) pj
-
-  -- where the rounds before had it from
-  row-from : row % (2 * w) * j + col % j ≡ r % w * (2 * j) + c % (2 * j)
-  row-from = omega (arith, ap (λ (x : ℕ). x * j) row-mod, col-mod, ap (λ (x : ℕ). x * j) r-mod, c-mod)
-
-  col-from : col / j * j + row / (2 * w) ≡ c / (2 * j) * (2 * j) + r / w
-  unfolding outer
-  col-from = omega (arith, ap (λ (x : ℕ). x * j) col-div, row-div, ap (λ (x : ℕ). x * j) c-div, r-div)
-
--- one round more
-turned-more : (j w : ℕ) (a b c : List ℕ) → 0 < j → 0 < w → j * w ≡ half-limit → Turned j (2 * w) a b → Exchanged j b c → Turned (2 * j) w a c
-unfolding row col
-turned-more j w a b c pj pw whole t x = record {
+turned-more : (j : ℕ) (a b c : List ℕ) → all-below unit-rows (λ r. all-below node-limit (follows j r)) ≡ true
+    → Turned (2 * j) a b → Exchanged j b c → Turned j a c
+turned-more j a b c all t x = record {
   at = λ r k lr lk.
+      let h = simp (tests, eqb-iff) at all in
+      let s = h r lr k lk in
       x .at r k lr lk
-      ∙ t .at (row j w r k pj pw whole lr lk) (col j w r k pj pw whole lr lk) (row-lt j w r k pj pw whole lr lk) (col-lt j w r k pj pw whole lr lk)
-      ∙ ap₂ (λ (i n : ℕ). has (word-at a i) n) (row-from j w r k pj pw whole lr lk) (col-from j w r k pj pw whole lr lk);
+      ∙ t .at (placed r j (place k j)) (placed k j (place r j)) (omega arith) (omega arith)
+      ∙ ap₂ (λ (i n : ℕ). has (word-at a i) n) (s .0 .1) (s .1);
 }
 
--- ---- all six rounds
+-- the rounds at 8, 4, 2 and 1, from words that were copied and back
+pub unit-turned : (start : ℕ) (links zeros rows b₁ b₂ b₃ b₄ before after : List ℕ) → Copied 0 unit-rows (λ i. word-at links (start + i)) zeros rows
+    → Exchanged 8 rows b₁ → Exchanged 4 b₁ b₂ → Exchanged 2 b₂ b₃ → Exchanged 1 b₃ b₄ → Copied start unit-rows (word-at b₄) before after
+    → UnitTurned start links before after
+unfolding all-below
+unit-turned start links zeros rows b₁ b₂ b₃ b₄ before after from x₁ x₂ x₃ x₄ to = record {
+  long = to .long;
+  here = record {
+    at = λ k c lk lc.
+        let row : row-before 1 k c ≡ 0 + c % unit-rows = omega arith in
+        let col : col-before 1 k c ≡ c / unit-rows * unit-rows + k = omega arith in
+        ap (λ (w : ℕ). has w c) (to .here k lk) ∙ all .at k c lk lc ∙ ap₂ (λ (i n : ℕ). has (word-at rows i) n) row col
+        ∙ ap (λ (w : ℕ). has w (c / unit-rows * unit-rows + k)) (from .here (c % unit-rows) (omega arith));
+  };
+  rest = to .rest;
+}
+  where
+    none : Turned unit-rows rows rows
+    none = record {
+      at = λ r c lr lc.
+          let row : r ≡ row-before unit-rows r c = omega arith in
+          let col : c ≡ col-before unit-rows r c = omega arith in
+          ap₂ (λ (i n : ℕ). has (word-at rows i) n) row col;
+    }
+
+    all : Turned 1 rows b₄
+    all =
+        turned-more 1 rows b₃ b₄ refl (turned-more 2 rows b₂ b₃ refl (turned-more 4 rows b₁ b₂ refl (turned-more 8 rows rows b₁ refl none x₁) x₂) x₃) x₄
 
 -- the masks of the rounds
 
 pub half-1 : Half 1 0x5555_5555_5555_5555
 unfolding all-below
-half-1 = record { few = omega arith; fits = omega arith; low = refl }
+half-1 = record { some = omega arith; few = omega arith; low = refl }
 
 pub half-2 : Half 2 0x3333_3333_3333_3333
 unfolding all-below
-half-2 = record { few = omega arith; fits = omega arith; low = refl }
+half-2 = record { some = omega arith; few = omega arith; low = refl }
 
 pub half-4 : Half 4 0x0f0f_0f0f_0f0f_0f0f
 unfolding all-below
-half-4 = record { few = omega arith; fits = omega arith; low = refl }
+half-4 = record { some = omega arith; few = omega arith; low = refl }
 
 pub half-8 : Half 8 0x00ff_00ff_00ff_00ff
 unfolding all-below
-half-8 = record { few = omega arith; fits = omega arith; low = refl }
+half-8 = record { some = omega arith; few = omega arith; low = refl }
 
-pub half-16 : Half 16 0x0000_ffff_0000_ffff
+-- ---- the rounds at 16 and 32
+
+-- the columns whose place 16 or 32 is 0
+abbrev sixteens : ℕ
+sixteens = 0x0000_ffff_0000_ffff
+
+abbrev low-half : ℕ
+low-half = 0x0000_0000_ffff_ffff
+
+half-16 : Half 16 sixteens
 unfolding all-below
-half-16 = record { few = omega arith; fits = omega arith; low = refl }
+half-16 = record { some = omega arith; few = omega arith; low = refl }
 
-pub half-32 : Half 32 0x0000_0000_ffff_ffff
+half-32 : Half 32 low-half
 unfolding all-below
-half-32 = record { few = omega arith; fits = omega arith; low = refl }
+half-32 = record { some = omega arith; few = omega arith; low = refl }
 
--- the rounds at the places 1 to 32
-module _ (a b₁ b₂ b₃ b₄ b₅ b : List ℕ) (x₁ : Exchanged 1 a b₁) (x₂ : Exchanged 2 b₁ b₂) (x₃ : Exchanged 4 b₂ b₃) (x₄ : Exchanged 8 b₃ b₄)
-    (x₅ : Exchanged 16 b₄ b₅) (x₆ : Exchanged 32 b₅ b) where
-  all-turned : Turned node-limit 1 a b
-  all-turned =
-      turned-more 32 1 a b₅ b (omega arith) (omega arith) refl
-      (turned-more 16 2 a b₄ b₅ (omega arith) (omega arith) refl
-      (turned-more 8 4 a b₃ b₄ (omega arith) (omega arith) refl
-      (turned-more 4 8 a b₂ b₃ (omega arith) (omega arith) refl
-      (turned-more 2 16 a b₁ b₂ (omega arith) (omega arith) refl
-      (turned-more 1 32 a a b₁ (omega arith) (omega arith) refl (unturned a) x₁) x₂) x₃) x₄) x₅) x₆
+-- row u of the four that the two rounds make of four rows
+abbrev joined : ℕ → ℕ → ℕ → ℕ → ℕ → ℕ
+joined t₀ t₁ t₂ t₃ u =
+    changed 32 low-half (changed 16 sixteens t₀ t₁ (u % 2)) (changed 16 sixteens t₂ t₃ (u % 2)) (u / 2)
 
-  -- row and column have changed places
-  mirrored : (r c : ℕ) → r < node-limit → c < node-limit → has (word-at b r) c ≡ has (word-at a c) r
-  mirrored r c lr lc =
-      let row : r % 1 * node-limit + c % node-limit ≡ c = omega arith in
-      let col : c / node-limit * node-limit + r / 1 ≡ r = omega arith in
-      all-turned .at r c lr lc ∙ ap₂ (λ (i k : ℕ). has (word-at a i) k) row col
+-- the same of the rows k, 16 + k, 32 + k and 48 + k
+abbrev pub joined-row : List ℕ → ℕ → ℕ → ℕ
+joined-row turned k = joined (word-at turned k) (word-at turned (16 + k)) (word-at turned (32 + k)) (word-at turned (48 + k))
 
-  -- the words are as they were where the digits are mutual
-  pub turned-same : ((i : ℕ) → word-at a i < 2 ^ node-limit) → same-words b a ≡ own-mutual a node-limit
-  turned-same small =
-      test-ext (same-words b a) (own-mutual a node-limit)
-      (λ e. let h = simp (tests, eqb-iff) at e in simp tests (λ i li k lk. ap (λ (w : ℕ). has w k) (sym (h i li)) ∙ mirrored i k li lk))
-      (λ e. let h = simp tests at e in
-      simp (tests, eqb-iff) (λ i li. has-ext (word-at b i) (word-at a i) (λ k.
-      ⊎-elim (λ lk. mirrored i k li lk ∙ h k lk i li)
-      (λ ge. has-above (word-at b i) node-limit k (x₆ .fits i li) ge ∙ sym (has-above (word-at a i) node-limit k (small i) ge))
-      (by-lt k node-limit))))
+-- row u and column c come from row c / 16 and column 16 u + c % 16
+abbrev joins : ℕ → ℕ → Bool
+joins u c =
+    let col = placed c 32 (u / 2) in
+    leb (col + 1) node-limit && eqb (2 * place c 32 + place col 16) (c / unit-rows)
+    && eqb (placed col 16 (u % 2)) (unit-rows * u + c % unit-rows)
+
+all-join : all-below units (λ u. all-below node-limit (joins u)) ≡ true
+unfolding all-below
+all-join = refl
+
+joined-at : (t : ℕ → ℕ) (u c : ℕ) → u < units → c < node-limit
+    → has (joined (t 0) (t 1) (t 2) (t 3) u) c ≡ has (t (c / unit-rows)) (unit-rows * u + c % unit-rows)
+joined-at t u c lu lc =
+    let h = simp (tests, eqb-iff) at all-join in
+    let s = h u lu c lc in
+    let e = place c 32 in
+    let even : t (2 * e) ≡ t (2 * e + 0) = ap t (omega arith) in
+    changed-at 32 low-half (changed 16 sixteens (t 0) (t 1) (u % 2)) (changed 16 sixteens (t 2) (t 3) (u % 2)) half-32
+    (λ e. changed 16 sixteens (t (2 * e)) (t (2 * e + 1)) (u % 2)) refl refl (u / 2) c (omega arith) lc
+    ∙ changed-at 16 sixteens (t (2 * e)) (t (2 * e + 1)) half-16 (λ d. t (2 * e + d)) even refl (u % 2) (placed c 32 (u / 2)) (omega arith) (omega arith)
+    ∙ ap₂ (λ (i n : ℕ). has (t i) n) (s .0 .1) (s .1)
+
+-- ---- the words compared with their columns
+
+-- a word that is the column i is the word i where the connections of i are mutual
+same-column : (links : List ℕ) (v i : ℕ) → ((n : ℕ) → word-at links n < 2 ^ node-limit) → v < 2 ^ node-limit
+    → ((c : ℕ) → c < node-limit → has v c ≡ has (word-at links c) i)
+    → eqb v (word-at links i) ≡ all-below node-limit (both-ways links i)
+same-column links v i small fits column =
+    test-ext (eqb v (word-at links i)) (all-below node-limit (both-ways links i))
+    (λ e. let h = simp eqb-iff at e in simp tests (λ c lc. ap (λ (w : ℕ). has w c) (sym h) ∙ column c lc))
+    (λ e. let h = simp tests at e in
+    simp eqb-iff (has-ext v (word-at links i) (λ c.
+    ⊎-elim (λ lc. column c lc ∙ sym (h c lc))
+    (λ ge. has-above v node-limit c fits ge ∙ sym (has-above (word-at links i) node-limit c (small i) ge))
+    (by-lt c node-limit))))
+
+-- what four tests gather
+four-gathered : (p : ℕ → Bool) (a b c d : ℕ) → empty a ≡ p 0 → empty b ≡ p 1 → empty c ≡ p 2 → empty d ≡ p 3
+    → empty (bitOr (bitOr a b) (bitOr c d)) ≡ all-below units p
+unfolding union all-below
+four-gathered p a b c d p₀ p₁ p₂ p₃ =
+    empty-union (bitOr a b) (bitOr c d) ∙ ap₂ _&&_ (empty-union a b ∙ ap₂ _&&_ p₀ p₁) (empty-union c d ∙ ap₂ _&&_ p₂ p₃)
+    ∙ sym (and-assoc (p 0 && p 1) (p 2) (p 3))
+
+module _ (links turned : List ℕ) (k : ℕ) (lk : k < unit-rows) (t : TurnedBelow units links turned)
+    (small : (n : ℕ) → word-at links n < 2 ^ node-limit) where
+  row : ℕ → ℕ
+  row u = word-at turned (unit-rows * u + k)
+
+  -- the word that the rounds make of row u is the column of its node
+  column : (u c : ℕ) → u < units → c < node-limit → has (joined (row 0) (row 1) (row 2) (row 3) u) c ≡ has (word-at links c) (unit-rows * u + k)
+  unfolding row
+  column u c lu lc =
+      let col = unit-rows * u + c % unit-rows in
+      let node : unit-rows * (c / unit-rows) + col % unit-rows ≡ c = omega arith in
+      let own : col / unit-rows * unit-rows + k ≡ unit-rows * u + k = omega arith in
+      joined-at row u c lu lc ∙ t (c / unit-rows) (omega arith) .at k col lk (omega arith) ∙ ap₂ (λ (i n : ℕ). has (word-at links i) n) node own
+
+  same : (u v i : ℕ) → u < units → i ≡ unit-rows * u + k → v < 2 ^ node-limit → v ≡ joined-row turned k u
+      → empty (bitXor v (word-at links i)) ≡ all-below node-limit (both-ways links (unit-rows * u + k))
+  unfolding row
+  same u v i lu e fits made =
+      let first : word-at turned k ≡ row 0 = ap (word-at turned) (omega arith) in
+      let whole = made ∙ ap (λ (w : ℕ). joined w (row 1) (row 2) (row 3) u) first in
+      empty-xor v (word-at links i) ∙ ap (λ (n : ℕ). eqb v (word-at links n)) e
+      ∙ same-column links v (unit-rows * u + k) small fits (λ c lc. ap (λ (w : ℕ). has w c) whole ∙ column u c lu lc)
+
+  -- nothing differs where the four nodes' connections are mutual
+  pub none-off : (v₀ v₁ v₂ v₃ : ℕ) → (v₀ < 2 ^ node-limit) × (v₁ < 2 ^ node-limit) × (v₂ < 2 ^ node-limit) × (v₃ < 2 ^ node-limit)
+      → v₀ ≡ joined-row turned k 0 → v₁ ≡ joined-row turned k 1 → v₂ ≡ joined-row turned k 2 → v₃ ≡ joined-row turned k 3
+      → empty (bitOr (bitOr (bitXor v₀ (word-at links k)) (bitXor v₁ (word-at links (16 + k))))
+      (bitOr (bitXor v₂ (word-at links (32 + k))) (bitXor v₃ (word-at links (48 + k))))) ≡ units-mutual links k
+  none-off v₀ v₁ v₂ v₃ fit e₀ e₁ e₂ e₃ =
+      four-gathered (λ u. all-below node-limit (both-ways links (unit-rows * u + k))) (bitXor v₀ (word-at links k)) (bitXor v₁ (word-at links (16 + k)))
+      (bitXor v₂ (word-at links (32 + k))) (bitXor v₃ (word-at links (48 + k)))
+      (same 0 v₀ k (omega arith) (omega arith) (fit .0) e₀) (same 1 v₁ (16 + k) (omega arith) (omega arith) (fit .1) e₁)
+      (same 2 v₂ (32 + k) (omega arith) (omega arith) (fit .2) e₂) (same 3 v₃ (48 + k) (omega arith) (omega arith) (fit .3) e₃)
+
+-- all 64 nodes are mutual where the four of each row of a unit are
+pub all-units : (links : List ℕ) → all-below unit-rows (units-mutual links) ≡ own-mutual links node-limit
+all-units links =
+    test-ext (all-below unit-rows (units-mutual links)) (own-mutual links node-limit)
+    (λ e. let h = simp tests at e in
+    simp tests (λ i l j m.
+    let own : unit-rows * (i / unit-rows) + i % unit-rows ≡ i = omega arith in
+    rw own at (h (i % unit-rows) (omega arith) (i / unit-rows) (omega arith) j m)))
+    (λ e. let h = simp tests at e in simp tests (λ k l u m j n. h (unit-rows * u + k) (omega arith) j n))
+
+-- ---- one unit more
+
+pub none-turned : (links turned : List ℕ) → TurnedBelow 0 links turned
+none-turned links turned u l = absurd (omega arith)
+
+pub one-turned : (n : ℕ) (links before after : List ℕ) → TurnedBelow n links before → UnitTurned (unit-rows * n) links before after
+    → TurnedBelow (n + 1) links after
+one-turned n links before after was more u l =
+    ⊎-elim (λ lt. record {
+      at = λ k c lk lc. ap (λ (w : ℕ). has w c) (more .rest (unit-rows * u + k) (inl (omega arith))) ∙ was u lt .at k c lk lc;
+    })
+    (λ ge.
+    let e : u ≡ n = omega arith in
+    rw e (more .here))
+    (by-lt u n)

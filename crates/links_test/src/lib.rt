@@ -2,19 +2,36 @@
 use nodes::NODE_LIMIT;
 use nodes::roster;
 ghost use mathlib.Core.Path.{_≡_};
-ghost use Prim.Native.Nat.{_≤_, _<_};
+ghost use Prim.Native.Nat.{_+_, _≤_, _<_};
 ghost use lib.ListN.{length};
-ghost use Rattle.nodes.specs.Sets.{node-limit};
+ghost use Rattle.nodes.specs.Sets.{node-limit, empty};
 ghost use Rattle.free_test.specs.WireTests.{all-below, own-linked, both-ways, own-mutual, links-sound};
-ghost use Rattle.links_test.specs.Exchange.{Half, Exchanged, same-words};
+ghost use Rattle.links_test.specs.Exchange.{unit-rows, Half, Within, crossing, lower, upper, Exchanged};
+ghost use Rattle.links_test.specs.Turning.{units, UnitTurned, TurnedBelow, units-mutual};
 use free_test::NODE_WORDS;
 use free_test::all_zero;
 
-// Half of that.
-const HALF: usize = NODE_WORDS / 2;
+// So many words are turned at a time: as many as stay in registers.
+const UNIT: usize = 16;
+
+// So many units there are.
+const UNITS: usize = NODE_WORDS / UNIT;
 
 // From so many nodes on it is quicker to turn all the words than to compare pair by pair.
-const TURNED_FROM: u32 = 22;
+const TURNED_FROM: u32 = 16;
+
+// The columns whose place 1, 2, 4, 8, 16 or 32 is 0.
+const EVENS: u64 = 0x5555_5555_5555_5555;
+
+const PAIRS: u64 = 0x3333_3333_3333_3333;
+
+const FOURS: u64 = 0x0f0f_0f0f_0f0f_0f0f;
+
+const EIGHTS: u64 = 0x00ff_00ff_00ff_00ff;
+
+const SIXTEENS: u64 = 0x0000_ffff_0000_ffff;
+
+const LOW_HALF: u64 = 0x0000_0000_ffff_ffff;
 
 // Whether the connections of each of the first n nodes are among those nodes, without the node itself.
 fn own_linked(links: &[u64], n: u32) -> bool
@@ -54,30 +71,76 @@ fn pairs_mutual(links: &[u64], n: usize) -> bool
     all
 }
 
-// One round of turning the 64 x 64 digits about their diagonal: the last place of the row's number changes sides with the place `shift` of
-// the column's. Rows 2k and 2k + 1 give rows k and k + 32. mask has the columns whose place `shift` is 0.
-fn exchange(from: &[u64], to: &mut [u64; NODE_WORDS], shift: u32, mask: u64)
-    requires { ⌜ (length (now from) ≡ node-limit) × (length (now to) ≡ node-limit) × (Half shift mask) ⌝ }
-    ensures { λ r. ⌜ Exchanged shift (now (from .entry)) (now (to .exit)) ⌝ }
+// The digits in which two rows, of which the second is j further on, change sides in a round at the place j. mask has the columns whose place j is 0.
+fn crossing(x: u64, y: u64, j: u32, mask: u64) -> u64
+    requires { ⌜ j < node-limit ⌝ }
+    ensures { λ r. ⌜ r ≡ crossing j mask x y ⌝ }
 {
-    for k in 0..HALF {
-        let x = from[2 * k];
-        let y = from[2 * k + 1];
-        to[k] = (x & mask) | ((y << shift) & !mask);
-        to[k + HALF] = ((x >> shift) & mask) | (y & !mask);
+    ((x >> j) ^ y) & mask
+}
+
+// What a round at the place j makes of the first of two rows.
+fn lower(x: u64, y: u64, j: u32, mask: u64) -> u64
+    requires { ⌜ j < node-limit ⌝ }
+    ensures { λ r. ⌜ r ≡ lower j mask x y ⌝ }
+{
+    x ^ (crossing(x, y, j, mask) << j)
+}
+
+// What it makes of the second.
+fn upper(x: u64, y: u64, j: u32, mask: u64) -> u64
+    requires { ⌜ j < node-limit ⌝ }
+    ensures { λ r. ⌜ r ≡ upper j mask x y ⌝ }
+{
+    y ^ crossing(x, y, j, mask)
+}
+
+// One round of turning the digits of 16 rows: the place j of the row's number and that of the column's change sides.
+fn exchange(rows: &mut [u64; UNIT], j: usize, mask: u64)
+    requires { ⌜ (length (now rows) ≡ unit-rows) × (Within j) × (Half j mask) ⌝ }
+    ensures { λ r. ⌜ Exchanged j (now (rows .entry)) (now (rows .exit)) ⌝ }
+{
+    for k in 0..UNIT / 2 {
+        let r = k / j * (2 * j) + k % j;
+        let x = rows[r];
+        let y = rows[r + j];
+        rows[r] = lower(x, y, j as u32, mask);
+        rows[r + j] = upper(x, y, j as u32, mask);
     }
 }
 
-// Whether two runs have the same words.
-fn same_words(a: &[u64], b: &[u64]) -> bool
-    requires { ⌜ (length (now a) ≡ node-limit) × (length (now b) ≡ node-limit) ⌝ }
-    ensures { λ r. ⌜ r ≡ same-words (now (a .entry)) (now (b .entry)) ⌝ }
+// Turns the 16 rows from start on, each 16 columns by themselves, and writes them to the same place.
+fn turn_unit(links: &[u64], start: usize, turned: &mut [u64; NODE_WORDS])
+    requires { ⌜ (length (now links) ≡ node-limit) × (length (now turned) ≡ node-limit) × (start + unit-rows ≤ node-limit) ⌝ }
+    ensures { λ r. ⌜ UnitTurned start (now (links .entry)) (now (turned .entry)) (now (turned .exit)) ⌝ }
 {
-    let mut off: u64 = 0;
-    for i in 0..NODE_WORDS {
-        off = off | (a[i] ^ b[i]);
+    let mut rows = [0u64; UNIT];
+    for k in 0..UNIT {
+        rows[k] = links[start + k];
     }
-    off == 0
+    exchange(&mut rows, 8, EIGHTS);
+    exchange(&mut rows, 4, FOURS);
+    exchange(&mut rows, 2, PAIRS);
+    exchange(&mut rows, 1, EVENS);
+    for k in 0..UNIT {
+        turned[start + k] = rows[k];
+    }
+}
+
+// What differs between the connections of the nodes k, 16 + k, 32 + k and 48 + k and their columns, where the units are turned: the rounds at 16 and 32.
+fn off_by_units(links: &[u64], turned: &[u64], k: usize) -> u64
+    requires { ⌜ (length (now links) ≡ node-limit) × (length (now turned) ≡ node-limit) × (k < unit-rows) × (TurnedBelow units (now links) (now turned)) ⌝ }
+    ensures { λ r. ⌜ empty r ≡ units-mutual (now (links .entry)) k ⌝ }
+{
+    let w = lower(turned[k], turned[UNIT + k], 16, SIXTEENS);
+    let x = upper(turned[k], turned[UNIT + k], 16, SIXTEENS);
+    let y = lower(turned[2 * UNIT + k], turned[3 * UNIT + k], 16, SIXTEENS);
+    let z = upper(turned[2 * UNIT + k], turned[3 * UNIT + k], 16, SIXTEENS);
+    let low = (lower(w, y, 32, LOW_HALF) ^ links[k])
+        | (lower(x, z, 32, LOW_HALF) ^ links[UNIT + k]);
+    let high = (upper(w, y, 32, LOW_HALF) ^ links[2 * UNIT + k])
+        | (upper(x, z, 32, LOW_HALF) ^ links[3 * UNIT + k]);
+    low | high
 }
 
 // Whether the connections between all 64 nodes are mutual: turned about the diagonal, the words are the same.
@@ -85,15 +148,15 @@ fn turned_mutual(links: &[u64]) -> bool
     requires { ⌜ length (now links) ≡ node-limit ⌝ }
     ensures { λ r. ⌜ r ≡ own-mutual (now (links .entry)) node-limit ⌝ }
 {
-    let mut a = [0u64; NODE_WORDS];
-    let mut b = [0u64; NODE_WORDS];
-    exchange(links, &mut a, 1, 0x5555_5555_5555_5555);
-    exchange(&a, &mut b, 2, 0x3333_3333_3333_3333);
-    exchange(&b, &mut a, 4, 0x0f0f_0f0f_0f0f_0f0f);
-    exchange(&a, &mut b, 8, 0x00ff_00ff_00ff_00ff);
-    exchange(&b, &mut a, 16, 0x0000_ffff_0000_ffff);
-    exchange(&a, &mut b, 32, 0x0000_0000_ffff_ffff);
-    same_words(&b, links)
+    let mut turned = [0u64; NODE_WORDS];
+    for u in 0..UNITS {
+        turn_unit(links, UNIT * u, &mut turned);
+    }
+    let mut off: u64 = 0;
+    for k in 0..UNIT {
+        off = off | off_by_units(links, &turned, k);
+    }
+    off == 0
 }
 
 // Whether the connections are those of n nodes: among them, none to itself, mutual.

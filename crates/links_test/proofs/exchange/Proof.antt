@@ -2,64 +2,82 @@
 -- Assumes nothing.
 use borrow.Author.Needs.{needs}
 use mathlib.Core.Path.{_≡_}
-use Prim.Native.Nat.{ℕ, _-_, _^_, _≤_, _<_}
+use Prim.Native.Nat.{_-_, _≤_}
 use native.Mathlib.Omega.{arith}
-use lib.ListN.{length, length-set}
-use Rattle.nodes.specs.Sets.{node-limit, word-at, union, inter}
-use Rattle.links_test.specs.Exchange.{half-limit, Paired, paired-more, exchanged}
+use Rattle.links_test.specs.Exchange.{unit-pairs, Partly, row-lt, begun, one-more, ended}
 use Rattle.links_test.proofs.exchange.Statement.{statement}
 use Rattle.links_test.proofs.exchange.Tie as tie
 
 abbrev Inv-loop : tie.InvT-loop
-Inv-loop from to₀ shift mask k₀ to k = (k ≤ half-limit) × (length to ≡ node-limit) × ((i : ℕ) → i < k → Paired shift mask from to i)
+Inv-loop rows₀ j mask k₀ rows k = (k ≤ unit-pairs) × (Partly j k rows₀ rows)
 
 abbrev μ-loop : tie.MeasureT-loop
-μ-loop from to₀ shift mask k₀ to k = half-limit - k
+μ-loop rows₀ j mask k₀ rows k = unit-pairs - k
 
 loop-holds : tie.Need-loop-holds Inv-loop μ-loop
-loop-holds c = (search needs, search needs, λ i l. absurd (omega arith))
+loop-holds c = (search needs, begun (c .args .j) (c .args .rows .now) (c .pre .0))
+
+div-r : tie.Need-div-r Inv-loop μ-loop
+div-r c = search needs
+
+mul-r : tie.Need-mul-r Inv-loop μ-loop
+mul-r c = search needs
+
+rem-r : tie.Need-rem-r Inv-loop μ-loop
+rem-r c = search needs
+
+-- both rows are in the unit
+element-copy-out-y : tie.Need-element-copy-out-y Inv-loop μ-loop
+element-copy-out-y c =
+    let start = c .before .before .before in
+    row-lt (start .args .j) (start .pre .2 .some) (start .pre .1) (c .before .before .loop .k) (omega arith)
+
+element-copy-out-x : tie.Need-element-copy-out-x Inv-loop μ-loop
+element-copy-out-x c =
+    let start = c .before .before in
+    omega (arith, row-lt (start .args .j) (start .pre .2 .some) (start .pre .1) (c .before .loop .k) (omega arith))
+
+mul-r-2 : tie.Need-mul-r-2 Inv-loop μ-loop
+mul-r-2 c = omega (arith, element-copy-out-x c)
+
+add-r : tie.Need-add-r Inv-loop μ-loop
+add-r c = omega (arith, element-copy-out-x c)
 
 mul-x : tie.Need-mul-x Inv-loop μ-loop
-mul-x c = search needs
-
-mul-x-2 : tie.Need-mul-x-2 Inv-loop μ-loop
-mul-x-2 c = search needs
-
-shared-slice-read-x : tie.Need-shared-slice-read-x Inv-loop μ-loop
-shared-slice-read-x c = search needs
-
-mul-y : tie.Need-mul-y Inv-loop μ-loop
-mul-y c = search needs
+mul-x c = omega (arith, element-copy-out-x c)
 
 add-y : tie.Need-add-y Inv-loop μ-loop
-add-y c = search needs
+add-y c = omega (arith, element-copy-out-y c)
 
-mul-y-2 : tie.Need-mul-y-2 Inv-loop μ-loop
-mul-y-2 c = search needs
+mul-y : tie.Need-mul-y Inv-loop μ-loop
+mul-y c = omega (arith, element-copy-out-y c)
 
-shared-slice-read-y : tie.Need-shared-slice-read-y Inv-loop μ-loop
-shared-slice-read-y c = search needs
+cast-lower : tie.Need-cast-lower Inv-loop μ-loop
+cast-lower c = search needs
 
-shl-to : tie.Need-shl-to Inv-loop μ-loop
-shl-to c = search needs
+lower-requires : tie.Need-lower-requires Inv-loop μ-loop
+lower-requires c κs = search needs
 
-mul-to : tie.Need-mul-to Inv-loop μ-loop
-mul-to c = search needs
+mul-rows : tie.Need-mul-rows Inv-loop μ-loop
+mul-rows c = omega (arith, element-copy-out-y (c .before .before))
 
-element-write-to : tie.Need-element-write-to Inv-loop μ-loop
-element-write-to c = search needs
+element-write-rows : tie.Need-element-write-rows Inv-loop μ-loop
+element-write-rows c = omega (arith, element-copy-out-y (c .before .before))
 
-shr-to : tie.Need-shr-to Inv-loop μ-loop
-shr-to c = search needs
+cast-upper : tie.Need-cast-upper Inv-loop μ-loop
+cast-upper c = search needs
 
-add-to : tie.Need-add-to Inv-loop μ-loop
-add-to c = search needs
+upper-requires : tie.Need-upper-requires Inv-loop μ-loop
+upper-requires c κs = search needs
 
-mul-to-2 : tie.Need-mul-to-2 Inv-loop μ-loop
-mul-to-2 c = search needs
+add-rows : tie.Need-add-rows Inv-loop μ-loop
+add-rows c = omega (arith, element-copy-out-y (c .before .before .before))
 
-element-write-to-2 : tie.Need-element-write-to-2 Inv-loop μ-loop
-element-write-to-2 c = search needs
+mul-rows-2 : tie.Need-mul-rows-2 Inv-loop μ-loop
+mul-rows-2 c = omega (arith, element-copy-out-y (c .before .before .before))
+
+element-write-rows-2 : tie.Need-element-write-rows-2 Inv-loop μ-loop
+element-write-rows-2 c = element-copy-out-y (c .before .before .before)
 
 add-k : tie.Need-add-k Inv-loop μ-loop
 add-k c = search needs
@@ -68,22 +86,21 @@ loop-less : tie.Need-loop-less Inv-loop μ-loop
 loop-less c = search needs
 
 loop-again : tie.Need-loop-again Inv-loop μ-loop
-unfolding union inter
 loop-again c =
-    let at = c .before .before .before .loop in
-    let a = c .before .before .before .before .args in
-    let from = a .from .now in
-    let small : (i : ℕ) → word-at from i < 2 ^ node-limit = λ i. c .shared-slice-known2 .given i .fits in (
+    let at = c .before .before .before .before .before .loop in
+    let start = c .before .before .before .before .before .before in
+    let a = start .args in (
       search needs,
-      simp length-set (at .inv .1),
-      paired-more (a .shift) (a .mask) from (at .to) (at .k) small (at .inv .1) (omega arith) (at .inv .2),
+      rw (c .upper .ensures, c .before .lower .ensures)
+          (one-more (a .j) (a .mask) (a .rows .now) (at .rows) (at .k) (start .pre .2) (start .pre .1) (omega arith) (at .inv .1)),
     )
 
 returns : tie.Need-returns Inv-loop μ-loop
 returns c =
-    let a = c .before .before .args in
+    let start = c .before .before in
     let at = c .before .loop in
-    exchanged (a .shift) (a .mask) (a .from .now) (at .to) (c .before .before .pre .2) (at .inv .1) (λ k l. at .inv .2 k (omega arith))
+    let all : at .k ≡ unit-pairs = omega arith in
+    ended (start .args .j) (start .args .rows .now) (at .rows) (start .pre .2 .some) (start .pre .1) (rw all at (at .inv .1))
 
 pub exchange-spec : {M : Type 1} → statement M
 exchange-spec =
@@ -92,20 +109,25 @@ exchange-spec =
     Inv-loop
     μ-loop
     loop-holds
+    div-r
+    mul-r
+    mul-r-2
+    rem-r
+    add-r
     mul-x
-    mul-x-2
-    shared-slice-read-x
-    mul-y
+    element-copy-out-x
     add-y
-    mul-y-2
-    shared-slice-read-y
-    shl-to
-    mul-to
-    element-write-to
-    shr-to
-    add-to
-    mul-to-2
-    element-write-to-2
+    mul-y
+    element-copy-out-y
+    cast-lower
+    lower-requires
+    mul-rows
+    element-write-rows
+    cast-upper
+    upper-requires
+    add-rows
+    mul-rows-2
+    element-write-rows-2
     add-k
     loop-less
     loop-again

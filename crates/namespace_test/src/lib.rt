@@ -70,9 +70,11 @@ fn taken(pid: u32, seen: &mut [u8], stamp: u8) -> bool
     ensures { λ _. ⌜ now (seen .exit) ≡ set (now (seen .entry)) (slot pid) stamp ⌝ }
 {
     let slot = slot_of(pid);
-    let held = seen[slot];
+    if seen[slot] == stamp {
+        return true;
+    }
     seen[slot] = stamp;
-    held == stamp
+    false
 }
 
 // The name of the word before the one at `i`, and 0 before the first.

@@ -1,5 +1,7 @@
 //! The functions of one side with an index beside the table, as pointers, so that the same loops time both.
 
+use crate::plain::test::Marks;
+
 type Run = *mut u64;
 
 /// One side, and the proved functions: a table and an index, the arguments of each, the answer.
@@ -40,4 +42,4 @@ functions! {
     write = sgroup_index();
 }
 
-pub const PLAIN: IndexApi = crate::plain::indexed::API;
+pub const PLAIN: IndexApi = crate::plain::indexed::api::<Marks>();

@@ -1,7 +1,8 @@
 //! Both sides are held to the same answers and words before anything is timed, on the random calls of tests/compare.
 
-use crate::api::{Api, Peer, PEERS, PLAIN, PLAIN_UNTESTED, PROVED, PROVED_UNTESTED};
+use crate::api::{Api, PEERS, PLAIN, PLAIN_UNTESTED, PROVED, PROVED_UNTESTED};
 use crate::call::{self, Asked, Lent, Which};
+use crate::plain::test::Peer;
 use compare::case::Case;
 use compare::random::{Kind, Walk, STEPS};
 use model::command::{Form, Request};
@@ -72,8 +73,9 @@ pub fn says_sound(api: &Api, table: &[u64]) -> bool {
 /// What the proved test says of a table, once each plain one says the same.
 pub fn same_verdict(table: &[u64]) -> bool {
     let ours = says_sound(&PROVED, table);
-    for Peer { test, api, .. } in PEERS {
-        assert_eq!(says_sound(api, table), ours, "is_sound, {test}: {table:?}");
+    for Peer { test, functions } in PEERS {
+        let theirs = says_sound(functions, table);
+        assert_eq!(ours, theirs, "is_sound, {test}: {table:?}");
     }
     ours
 }

@@ -1,9 +1,10 @@
 //! Each command with the test and without: the proved functions against plain Rust.
 
-use crate::api::{Api, Peer, PEERS, PROVED, PROVED_UNTESTED, UNTESTED_PEERS};
+use crate::api::{Api, PEERS, PROVED, PROVED_UNTESTED, UNTESTED_PEERS};
 use crate::call::{calls, no_calls, outcome, Asked, Lent, Which};
 use crate::plain::sizes::{BODIES, BODY, CONTENTS, MEMBERS, PIDS_PER_HOST};
-use crate::race::{quicker_half, Plan};
+use crate::plain::test::Peer;
+use crate::race::{quickest, Plan};
 use crate::rows::{fastest, heading, row, Times};
 use crate::strangers::STRANGER;
 use crate::tables::{halves, subset, table, Size, FULL, MAIN_SIZES, MANY};
@@ -26,7 +27,7 @@ pub const BAR: f64 = 1.5;
 pub struct Sides {
     pub what: &'static str,
     pub proved: &'static Api,
-    pub peers: &'static [Peer],
+    pub peers: &'static [Peer<Api>],
     pub tables: usize,
     pub calls: usize,
     pub bar: f64,
@@ -59,7 +60,7 @@ pub const UNTESTED: Sides = Sides {
 impl Sides {
     /// The proved side, then the plain ones.
     pub fn all(self) -> Vec<&'static Api> {
-        let plain = self.peers.iter().map(|peer| &peer.api);
+        let plain = self.peers.iter().map(|peer| &peer.functions);
         std::iter::once(self.proved).chain(plain).collect()
     }
 }
@@ -135,7 +136,7 @@ fn timed(sides: Sides, which: Which, tables: &[Vec<u64>], asked: &[Asked]) -> Ti
     hold(&all, which, tables, asked);
     let lent = RefCell::new(vec![Lent::new(&tables[0]); TURN]);
     let plan = Plan {
-        count: quicker_half,
+        count: quickest,
         rounds: if asked.len() > TESTED_CALLS {
             ROUNDS
         } else {

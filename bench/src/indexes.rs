@@ -3,6 +3,7 @@
 //! searches of a full table where it meets them again and again.
 
 use crate::agree::call_of;
+use crate::api::Api;
 use crate::call::{self, Asked, Which};
 use crate::commands::{main_cases, roomy, BAR, TESTED};
 use crate::index_api::{self, IndexApi};
@@ -10,7 +11,7 @@ use crate::index_call::{call, outcome, Called, Lent};
 use crate::plain::index::write;
 use crate::plain::sizes::{Index, BODIES, BODY, CONTENTS, INDEX_WORDS, PIDS_PER_HOST};
 use crate::race::{best, Plan};
-use crate::rows::{fastest, heading, heading_with, row, row_with, Times};
+use crate::rows::{fastest, fastest_peer, heading, heading_with, row, row_with, Times};
 use crate::strangers::STRANGER;
 use crate::tables::{table, Size, FULL, SMALL, STORE};
 use compare::index_case::Case;
@@ -191,18 +192,16 @@ struct Nanos {
 impl Nanos {
     /// With an index.
     fn whole(&self) -> Times {
-        fastest(&self.indexed, TESTED.peers)
+        fastest(&self.indexed, index_api::PEERS)
     }
 
-    /// What the index costs: the difference, of the same sides.
+    /// What the index costs.
     fn more(&self) -> Times {
-        let Times { theirs, test, .. } = self.whole();
-        let peer = self.indexed.iter().position(|time| *time == theirs);
         let more = |side: usize| self.indexed[side] - self.without[side];
         Times {
             ours: more(0),
-            theirs: more(peer.expect("the fastest peer")),
-            test,
+            theirs: more(fastest_peer(&self.indexed)),
+            ..self.whole()
         }
     }
 
@@ -219,51 +218,74 @@ fn heading_beside(what: &str) {
     heading_with(what, "   no index   times");
 }
 
+/// The proved side and its peers, with an index and without one, and the runs that are lent to them.
+struct Sides {
+    indexed: Vec<&'static IndexApi>,
+    without: Vec<&'static Api>,
+    lent: Lent,
+    lent_without: call::Lent,
+}
+
+impl Sides {
+    fn new(first: &Turn) -> Sides {
+        let plain = index_api::PEERS.iter().map(|peer| &peer.functions);
+        Sides {
+            indexed: std::iter::once(&index_api::PROVED).chain(plain).collect(),
+            without: TESTED.all(),
+            lent: first.lent(),
+            lent_without: call::Lent::new(&first.table),
+        }
+    }
+
+    /// Table and index as those of the turn, for this side.
+    fn restore(&mut self, side: usize, turn: &Turn) {
+        if side < self.indexed.len() {
+            self.lent.restore(&turn.table, &turn.index);
+        } else {
+            self.lent_without.restore(&turn.table);
+        }
+    }
+
+    /// A call of this side; past the last, none.
+    #[inline(always)]
+    fn call(&mut self, side: usize, called: Called, without: Which, asked: &Asked) -> u64 {
+        if let Some(api) = self.indexed.get(side) {
+            return u64::from(call(api, called, &mut self.lent, asked));
+        }
+        let lent = std::slice::from_mut(&mut self.lent_without);
+        match self.without.get(side - self.indexed.len()) {
+            Some(api) => call::calls(api, without, lent, &[*asked]),
+            None => u64::from(asked.s),
+        }
+    }
+}
+
 /// Times a call on each of the tables; beside it the command without an index, on the same tables.
 fn timed(called: Called, without: Which, turns: &[Turn]) -> Nanos {
-    let plain = TESTED.peers.iter().map(|peer| &peer.indexed);
-    let indexed: Vec<&IndexApi> = std::iter::once(&index_api::PROVED).chain(plain).collect();
-    let bare = TESTED.all();
-    hold(&indexed, called, turns);
-    let first = &turns[0];
-    let own = RefCell::new(first.lent());
-    let bare_own = RefCell::new(call::Lent::new(&first.table));
+    let sides = Sides::new(&turns[0]);
+    hold(&sides.indexed, called, turns);
     let plan = Plan {
         count: best,
-        rounds: match first.table[2] {
+        rounds: match turns[0].table[2] {
             0..=8 => SMALL_ROUNDS,
             _ => ROUNDS,
         },
         turns: turns.len(),
     };
+    let (with_index, bare) = (sides.indexed.len(), sides.without.len());
+    let sides = RefCell::new(sides);
     let mut times = plan.race(
-        indexed.len() + bare.len(),
+        with_index + bare,
+        |side, k| sides.borrow_mut().restore(side, &turns[k]),
         |side, k| {
-            let Turn { table, index, .. } = &turns[k];
-            if side < indexed.len() {
-                own.borrow_mut().restore(table, index);
-            } else {
-                bare_own.borrow_mut().restore(table);
-            }
-        },
-        |side, k| {
-            let asked = &turns[k].asked;
-            if let Some(api) = indexed.get(side) {
-                return u64::from(call(api, called, &mut own.borrow_mut(), asked));
-            }
-            match bare.get(side - indexed.len()) {
-                Some(api) => {
-                    let mut own = bare_own.borrow_mut();
-                    call::calls(api, without, std::slice::from_mut(&mut own), &[*asked])
-                }
-                None => u64::from(asked.s),
-            }
+            let mut sides = sides.borrow_mut();
+            sides.call(side, called, without, &turns[k].asked)
         },
     );
     times
         .iter_mut()
         .for_each(|time| *time /= turns.len() as f64);
-    let without = times.split_off(indexed.len());
+    let without = times.split_off(with_index);
     Nanos {
         indexed: times,
         without,
@@ -271,9 +293,9 @@ fn timed(called: Called, without: Which, turns: &[Turn]) -> Nanos {
 }
 
 /// Holds the sides to the same answers and words on these turns, and each index to be right.
-fn hold(sides: &[&IndexApi], called: Called, turns: &[Turn]) {
+fn hold(indexed: &[&IndexApi], called: Called, turns: &[Turn]) {
     for turn in turns {
-        let mut outcomes = sides
+        let mut outcomes = indexed
             .iter()
             .map(|api| outcome(api, called, turn.lent(), &turn.asked));
         let first = outcomes.next().expect("a side");

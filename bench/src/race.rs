@@ -3,25 +3,21 @@
 use std::hint::black_box;
 use std::time::Instant;
 
-/// Rounds of which a mean is taken, so that the steps of the clock do not count.
+/// Rounds of a block, whose mean is taken so that the steps of the clock count little.
 const BLOCK: usize = 10;
 
 /// What counts of the times of a turn.
 pub type Count = fn(&[u64]) -> f64;
 
-/// The mean of the quicker half of the blocks: for turns that are short beside the steps of the clock.
-pub fn quicker_half(times: &[u64]) -> f64 {
-    let blocks = times.chunks_exact(BLOCK);
-    let mut means: Vec<f64> = blocks
-        .map(|block| mean(block.iter().sum(), BLOCK))
+/// The mean of the quickest fifth of the blocks: for turns that are short beside the steps of the clock.
+pub fn quickest(times: &[u64]) -> f64 {
+    let mut sums: Vec<u64> = times
+        .chunks_exact(BLOCK)
+        .map(|block| block.iter().sum())
         .collect();
-    means.sort_unstable_by(f64::total_cmp);
-    let half = &means[..means.len().div_ceil(2)];
-    half.iter().sum::<f64>() / half.len() as f64
-}
-
-fn mean(sum: u64, many: usize) -> f64 {
-    sum as f64 / many as f64
+    sums.sort_unstable();
+    let fifth = &sums[..sums.len().div_ceil(5)];
+    fifth.iter().sum::<u64>() as f64 / (fifth.len() * BLOCK) as f64
 }
 
 /// The best: for turns that are long beside the steps of the clock.
@@ -46,8 +42,7 @@ impl Plan {
         mut ready: impl FnMut(usize, usize),
         mut turn: impl FnMut(usize, usize) -> u64,
     ) -> Vec<f64> {
-        let none = || vec![Vec::with_capacity(self.rounds); sides + 1];
-        let mut times: Vec<Vec<Vec<u64>>> = (0..self.turns).map(|_| none()).collect();
+        let mut times = vec![vec![Vec::new(); sides + 1]; self.turns];
         for round in 0..self.rounds {
             for (k, times) in times.iter_mut().enumerate() {
                 for step in 0..=sides {

@@ -1,6 +1,6 @@
 //! The rows of the tables that are printed.
 
-use crate::api::Peer;
+use crate::plain::test::Peer;
 
 /// What a row says: the times of the proved side and of its peer, in nanoseconds but for scripts, and which test the peer calls.
 pub struct Times {
@@ -9,17 +9,20 @@ pub struct Times {
     pub test: &'static str,
 }
 
-/// Of the times of the proved side and of its peers, those of the proved side and of the fastest peer.
-pub fn fastest(all: &[f64], peers: &'static [Peer]) -> Times {
-    let (theirs, peer) = all[1..]
-        .iter()
-        .zip(peers)
-        .min_by(|one, other| one.0.total_cmp(other.0))
-        .expect("a peer");
+/// Which of all sides, of which the proved one is the first, is the fastest plain one.
+pub fn fastest_peer(all: &[f64]) -> usize {
+    (1..all.len())
+        .min_by(|one, other| all[*one].total_cmp(&all[*other]))
+        .expect("a peer")
+}
+
+/// The times of the proved side and of the fastest of its peers.
+pub fn fastest<F>(all: &[f64], peers: &[Peer<F>]) -> Times {
+    let peer = fastest_peer(all);
     Times {
         ours: all[0],
-        theirs: *theirs,
-        test: peer.test,
+        theirs: all[peer],
+        test: peers[peer - 1].test,
     }
 }
 

@@ -1,7 +1,8 @@
 //! Whole scripts through the compiled program and through plain Rust, each in a process of its own whose start is among the time.
 
-use crate::api::{Peer, PEERS};
+use crate::plain::script::{printer, Printer};
 use crate::plain::sizes::PIDS_PER_HOST;
+use crate::plain::test::{peers, Peer};
 use crate::rows::{fastest, Times};
 use std::io::Write;
 use std::process::{Command, Stdio};
@@ -9,13 +10,16 @@ use std::time::Instant;
 
 const RUNS: usize = 60;
 
+/// Plain Rust with each of the tests.
+const PEERS: &[Peer<Printer>] = peers!(printer);
+
 /// The word by which this program runs a script in plain Rust; the name of a test comes behind it.
 pub const PLAIN: &str = "plain-script";
 
 /// Runs the script of standard input in plain Rust, with the test of this name.
 pub fn run_plain(test: &str) {
     let peer = PEERS.iter().find(|peer| peer.test == test);
-    let run = peer.expect("the name of a test").script;
+    let run = peer.expect("the name of a test").functions;
     let mut script = Vec::new();
     std::io::Read::read_to_end(&mut std::io::stdin(), &mut script).expect("a script to read");
     std::io::stdout()
@@ -77,10 +81,10 @@ fn scripts(seed: u64) -> [(&'static str, Vec<u8>); 3] {
 }
 
 /// The words that run a script in plain Rust.
-fn plain(peer: &Peer) -> [String; 3] {
+fn plain(test: &str) -> [String; 3] {
     let own = std::env::current_exe().expect("this program's own path");
     let own = own.to_string_lossy().into_owned();
-    [own, PLAIN.to_string(), peer.test.to_string()]
+    [own, PLAIN.to_string(), test.to_string()]
 }
 
 /// Holds the program and plain Rust to the same lines on the scripts that are timed; how many there were.
@@ -88,9 +92,9 @@ pub fn agree(seed: u64, program: &[String]) -> usize {
     let scripts = scripts(seed);
     for (what, script) in &scripts {
         let ours = printed(program, script);
-        for peer in PEERS {
-            let same = ours == printed(&plain(peer), script);
-            assert!(same, "{what}, {}: they print the same", peer.test);
+        for Peer { test, .. } in PEERS {
+            let same = ours == printed(&plain(test), script);
+            assert!(same, "{what}, {test}: they print the same");
         }
     }
     scripts.len()
@@ -100,7 +104,7 @@ pub fn agree(seed: u64, program: &[String]) -> usize {
 pub fn times(seed: u64, program: &[String]) {
     agree(seed, program);
     let sides: Vec<Vec<String>> = std::iter::once(program.to_vec())
-        .chain(PEERS.iter().map(|peer| plain(peer).to_vec()))
+        .chain(PEERS.iter().map(|peer| plain(peer.test).to_vec()))
         .collect();
     println!(
         "\n{:<30} {:>8} {:>8} {:>10} {:>9} {:>7}  plain test",

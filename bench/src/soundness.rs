@@ -3,7 +3,7 @@
 use crate::agree::{same_verdict, says_sound};
 use crate::commands::TESTED;
 use crate::plain::sizes::{BODY, GROUPS};
-use crate::race::{best, quicker_half, Count, Plan};
+use crate::race::{best, quickest, Count, Plan};
 use crate::rows::{fastest, heading_with, row_with, Times};
 use crate::tables::{
     one_group, one_mark, one_number, one_slot, one_slot_and_mark, table, two_free_groups, Size,
@@ -40,7 +40,7 @@ const COLD: Coming = Coming {
     tables: MANY,
     tests: TURN,
     rounds: 200,
-    count: quicker_half,
+    count: quickest,
 };
 
 /// Gives a table of one kind.

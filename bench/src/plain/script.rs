@@ -25,8 +25,16 @@ const WORDS_OUT: [&[u8]; 10] = [
     b"list",
 ];
 
-/// What the script prints, from a table of zero words, with this test in each call.
-pub fn run<T: Test>(script: &[u8]) -> Vec<u8> {
+/// Gives what a script prints.
+pub type Printer = fn(&[u8]) -> Vec<u8>;
+
+/// The one with this test in each call.
+pub const fn printer<T: Test>() -> Printer {
+    run::<T>
+}
+
+/// What the script prints, from a table of zero words.
+fn run<T: Test>(script: &[u8]) -> Vec<u8> {
     if script.len() > LONGEST_SCRIPT {
         return b"too-long\n".to_vec();
     }

@@ -35,3 +35,30 @@ impl Test for Untested {
         std::hint::black_box(true)
     }
 }
+
+/// Functions that call one test, by its name.
+pub struct Peer<F> {
+    pub test: &'static str,
+    pub functions: F,
+}
+
+/// A peer with each of the tests, whose functions `$functions` gives.
+macro_rules! peers {
+    ($functions:ident) => {
+        &[
+            $crate::plain::test::Peer {
+                test: "marks",
+                functions: $functions::<$crate::plain::test::Marks>(),
+            },
+            $crate::plain::test::Peer {
+                test: "512 slots",
+                functions: $functions::<$crate::plain::test::Stamps<512>>(),
+            },
+            $crate::plain::test::Peer {
+                test: "1,024 slots",
+                functions: $functions::<$crate::plain::test::Stamps<1024>>(),
+            },
+        ]
+    };
+}
+pub(crate) use peers;

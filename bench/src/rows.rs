@@ -2,6 +2,9 @@
 
 use crate::plain::test::Peer;
 
+/// Characters of what a row is about.
+const WIDTH: usize = 52;
+
 /// What a row says: the times of the proved side and of its peer, in nanoseconds but for scripts, and which test the peer calls.
 pub struct Times {
     pub ours: f64,
@@ -34,7 +37,7 @@ pub fn heading(what: &str) {
 /// The line above rows that say more.
 pub fn heading_with(what: &str, more: &str) {
     println!(
-        "\n{what:<46} {:>10} {:>10} {:>7}{more}  plain test",
+        "\n{what:<WIDTH$} {:>10} {:>10} {:>7}{more}  plain test",
         "proved ns", "plain ns", "ratio"
     );
 }
@@ -50,6 +53,6 @@ pub fn row_with(what: &str, times: &Times, more: &str, bar: f64) {
     let ratio = ours / theirs;
     let mark = if ratio > bar { "over the bar" } else { "" };
     let line =
-        format!("{what:<46} {ours:>10.1} {theirs:>10.1} {ratio:>7.2}{more}  {test:<12} {mark}");
+        format!("{what:<WIDTH$} {ours:>10.1} {theirs:>10.1} {ratio:>7.2}{more}  {test:<12} {mark}");
     println!("{}", line.trim_end());
 }

@@ -1,7 +1,8 @@
 //! Both sides are held to the same answers and words before anything is timed, on the random calls of tests/compare.
 
-use crate::api::{Api, PLAIN, PLAIN_UNTESTED, PROVED, PROVED_UNTESTED};
+use crate::api::{Api, PEERS, PLAIN, PLAIN_UNTESTED, PROVED, PROVED_UNTESTED};
 use crate::call::{self, Asked, Lent, Which};
+use crate::plain::test::Peer;
 use compare::case::Case;
 use compare::random::{Kind, Walk, STEPS};
 use model::command::{Form, Request};
@@ -69,6 +70,16 @@ pub fn says_sound(api: &Api, table: &[u64]) -> bool {
     unsafe { (api.is_sound)(table.as_ptr(), table.len()) }
 }
 
+/// What the proved test says of a table, once each plain one says the same.
+pub fn same_verdict(table: &[u64]) -> bool {
+    let ours = says_sound(&PROVED, table);
+    for Peer { test, functions } in PEERS {
+        let theirs = says_sound(functions, table);
+        assert_eq!(ours, theirs, "is_sound, {test}: {table:?}");
+    }
+    ours
+}
+
 /// Runs so many walks on both sides; how many cases there were.
 pub fn agree(seed: u64, walks: u64) -> usize {
     let mut cases = 0;
@@ -77,11 +88,7 @@ pub fn agree(seed: u64, walks: u64) -> usize {
         for _ in 0..STEPS {
             for (kind, case) in walk.step() {
                 cases += 1;
-                assert_eq!(
-                    says_sound(&PROVED, &case.table),
-                    says_sound(&PLAIN, &case.table),
-                    "is_sound {case:?}"
-                );
+                same_verdict(&case.table);
                 assert!(
                     outcome(&PROVED, &case) == outcome(&PLAIN, &case),
                     "{case:?}"

@@ -1,5 +1,8 @@
 //! The functions of one side as pointers, so that the same loops time both; the proved side with its test and without.
 
+use crate::plain::commands::api;
+use crate::plain::test::{peers, Marks, Peer, Untested};
+
 type Run = *mut u64;
 
 type Text = *const u8;
@@ -206,5 +209,13 @@ proved!(PROVED: sgroup_is_sound sgroup_open sgroup_register_name sgroup_re_regis
 proved!(PROVED_UNTESTED: notest_is_sound notest_open notest_register_name notest_re_register_name notest_unregister_name notest_registered_names
     notest_whereis_name notest_whereis_name_at notest_send notest_send_name notest_send_at notest_new_s_group notest_add_nodes notest_remove_nodes
     notest_delete_s_group notest_own_nodes notest_own_s_groups notest_launch);
-pub const PLAIN: Api = crate::plain::commands::api::<true>();
-pub const PLAIN_UNTESTED: Api = crate::plain::commands::api::<false>();
+pub const PLAIN: Api = api::<Marks>();
+pub const PLAIN_UNTESTED: Api = api::<Untested>();
+
+/// The plain functions with each of the tests, and without one.
+pub const PEERS: &[Peer<Api>] = peers!(api);
+pub const UNTESTED_PEERS: &[Peer<Api>] = &[Peer {
+    test: NO_TEST,
+    functions: PLAIN_UNTESTED,
+}];
+pub const NO_TEST: &str = "none";

@@ -1,37 +1,69 @@
-//! The test and each command, with the test and without: the proved functions against plain Rust.
+//! Each command with the test and without: the proved functions against plain Rust.
 
-use crate::api::{Api, PLAIN, PLAIN_UNTESTED, PROVED, PROVED_UNTESTED};
-use crate::call::{calls, no_calls, Asked, Lent, Which};
-use crate::plain::sizes::{BODIES, BODY, CONTENTS, MEMBERS};
-use crate::race::{best, quicker_half, race, Count};
+use crate::api::{Api, PEERS, PROVED, PROVED_UNTESTED, UNTESTED_PEERS};
+use crate::call::{calls, no_calls, outcome, Asked, Lent, Which};
+use crate::plain::sizes::{BODIES, BODY, CONTENTS, MEMBERS, PIDS_PER_HOST};
+use crate::plain::test::Peer;
+use crate::race::{quickest, Plan};
+use crate::rows::{fastest, heading, row, Times};
 use crate::strangers::STRANGER;
-use crate::tables::{full_with, halves, subset, table, Size, FULL, SMALL};
+use crate::tables::{halves, subset, table, Size, FULL, MAIN_SIZES, MANY};
 use model::prng::Prng;
+use std::cell::RefCell;
 
-/// Different calls of a command, so many that no branch predictor learns them.
-pub const CALLS: usize = 4096;
 /// Calls in a turn, each on a table of its own; the tables stay in the first cache.
 const TURN: usize = 3;
-/// Calls where the test dominates.
-pub const TESTED_CALLS: usize = 192;
-/// Rounds of calls, by whether the test dominates, and of tests alone.
+/// Calls of a command, by whether the test dominates. Without the test there are so many that no branch predictor learns them.
+const TESTED_CALLS: usize = 64 * TURN;
+const CALLS: usize = 1365 * TURN;
+/// Rounds of so few calls, and of more.
+const ROUNDS_OF_FEW: usize = 1000;
 const ROUNDS: usize = 150;
-const TESTED_ROUNDS: usize = 1000;
-const TEST_ROUNDS: usize = 4000;
-/// Tests in a turn, and turns.
-const TESTS: usize = 4;
-const TURNS: usize = 5;
-/// Calls where all are the same.
-const SAME_CALLS: usize = 64 * TURN;
-/// The ratio that a row is to stay within; the test of a small table has one of its own.
+/// The ratio that a row is to stay within, where nothing else is said.
 pub const BAR: f64 = 1.5;
-const SMALL_TEST_BAR: f64 = 2.0;
-const PIDS_PER_HOST: u64 = 1 << 26;
 
-/// The proved side and the plain one.
-pub type Sides = [&'static Api; 2];
-pub const TESTED: Sides = [&PROVED, &PLAIN];
-pub const UNTESTED: Sides = [&PROVED_UNTESTED, &PLAIN_UNTESTED];
+/// The sides of a row: the proved one, and the plain ones, of which the fastest counts. How many tables there are and calls in all, and the ratio that they are to stay within.
+#[derive(Clone, Copy)]
+pub struct Sides {
+    pub what: &'static str,
+    pub proved: &'static Api,
+    pub peers: &'static [Peer<Api>],
+    pub tables: usize,
+    pub calls: usize,
+    pub bar: f64,
+}
+
+pub const TESTED: Sides = Sides {
+    what: "with the test",
+    proved: &PROVED,
+    peers: PEERS,
+    tables: 1,
+    calls: TESTED_CALLS,
+    bar: 1.15,
+};
+/// A call on each of many tables.
+const COLD: Sides = Sides {
+    what: "with the test, cold",
+    tables: MANY,
+    calls: MANY,
+    ..TESTED
+};
+pub const UNTESTED: Sides = Sides {
+    what: "without the test",
+    proved: &PROVED_UNTESTED,
+    peers: UNTESTED_PEERS,
+    tables: 1,
+    calls: CALLS,
+    bar: BAR,
+};
+
+impl Sides {
+    /// The proved side, then the plain ones.
+    pub fn all(self) -> Vec<&'static Api> {
+        let plain = self.peers.iter().map(|peer| &peer.functions);
+        std::iter::once(self.proved).chain(plain).collect()
+    }
+}
 
 /// One node of the set, which is not empty.
 pub fn pick(prng: &mut Prng, set: u64) -> u32 {
@@ -82,86 +114,55 @@ fn of_main_case(which: Which, reason: u64) -> bool {
     reason == 0 || reason == STRANGER && Which::LOOKUPS.contains(&which)
 }
 
-/// Nanoseconds a call of two sides. Every call finds the table as it was; the time of an empty turn is subtracted.
-pub fn timed(sides: Sides, which: Which, words: &[u64], asked: &[Asked]) -> (f64, f64) {
-    let lent = std::cell::RefCell::new(vec![Lent::new(words); TURN]);
-    let turns = asked.len() / TURN;
-    let turn = |k: usize| &asked[k * TURN..][..TURN];
-    for k in 0..turns {
-        let outcome = sides.map(|api| {
-            let mut lent = vec![Lent::new(words); TURN];
-            (calls(api, which, &mut lent, turn(k)), lent)
-        });
-        assert!(outcome[0] == outcome[1], "{which:?} {:?}", turn(k));
-        let (returned, lent) = &outcome[0];
-        let reasons: Vec<u64> = lent.iter().map(|own| own.answer[3]).collect();
-        let main = reasons.iter().all(|reason| of_main_case(which, *reason));
+/// Holds the sides to the same answers and words on these calls, each of the main case.
+fn hold(sides: &[&Api], which: Which, tables: &[Vec<u64>], asked: &[Asked]) {
+    for (one, words) in asked.iter().zip(tables.iter().cycle()) {
+        let mut outcomes = sides
+            .iter()
+            .map(|api| outcome(api, which, Lent::new(words), *one));
+        let first = outcomes.next().expect("a side");
+        assert!(outcomes.all(|other| other == first), "{which:?} {one:?}");
+        let (returned, lent) = first;
         assert!(
-            main && *returned == reasons.iter().sum::<u64>(),
-            "no main case: {which:?} {:?}",
-            turn(k)
+            of_main_case(which, returned) && lent.answer[3] == returned,
+            "no main case: {which:?} {one:?}"
         );
     }
-    let (count, rounds): (Count, usize) = if asked.len() > TESTED_CALLS {
-        (quicker_half, ROUNDS)
-    } else {
-        (best, TESTED_ROUNDS)
+}
+
+/// Nanoseconds a call. There is one table for all calls or one for each, and every call finds it as it was.
+fn timed(sides: Sides, which: Which, tables: &[Vec<u64>], asked: &[Asked]) -> Times {
+    let all = sides.all();
+    hold(&all, which, tables, asked);
+    let lent = RefCell::new(vec![Lent::new(&tables[0]); TURN]);
+    let plan = Plan {
+        count: quickest,
+        rounds: if asked.len() > TESTED_CALLS {
+            ROUNDS
+        } else {
+            ROUNDS_OF_FEW
+        },
+        turns: asked.len() / TURN,
     };
-    let [ours, theirs, empty] = race(
-        count,
-        rounds,
-        turns,
-        |_, _| {
-            lent.borrow_mut()
-                .iter_mut()
-                .for_each(|own| own.restore(words))
+    let mut times = plan.race(
+        all.len(),
+        |_, k| {
+            for (i, own) in lent.borrow_mut().iter_mut().enumerate() {
+                own.restore(&tables[(k * TURN + i) % tables.len()]);
+            }
         },
-        |side, k| match sides.get(side) {
-            Some(api) => calls(api, which, &mut lent.borrow_mut(), turn(k)),
-            None => no_calls(&mut lent.borrow_mut(), turn(k)),
-        },
-    );
-    let calls = (turns * TURN) as f64;
-    ((ours - empty) / calls, (theirs - empty) / calls)
-}
-
-/// Nanoseconds a test of two sides, on these tables by turns.
-pub fn test_timed(tables: &[Vec<u64>]) -> (f64, f64) {
-    let [ours, theirs] = race(
-        best,
-        TEST_ROUNDS,
-        TURNS,
-        |_, _| {},
-        |side, _| {
-            let all = tables.iter().cycle().take(TESTS);
-            let sound: u64 = all
-                .map(|words| {
-                    u64::from(unsafe { (TESTED[side].is_sound)(words.as_ptr(), words.len()) })
-                })
-                .sum();
-            assert_eq!(sound as usize, TESTS);
-            sound
+        |side, k| {
+            let turn = &asked[k * TURN..][..TURN];
+            match all.get(side) {
+                Some(api) => calls(api, which, &mut lent.borrow_mut(), turn),
+                None => no_calls(&mut lent.borrow_mut(), turn),
+            }
         },
     );
-    (
-        ours / (TURNS * TESTS) as f64,
-        theirs / (TURNS * TESTS) as f64,
-    )
-}
-
-/// One line of the table, marked where the ratio is over the bar.
-pub fn row(what: &str, (ours, theirs): (f64, f64), bar: f64) {
-    let ratio = ours / theirs;
-    let mark = if ratio > bar { "  over the bar" } else { "" };
-    println!("{what:<46} {ours:>10.1} {theirs:>10.1} {ratio:>7.2}{mark}");
-}
-
-/// The line above the rows of a table.
-pub fn heading(what: &str) {
-    println!(
-        "\n{what:<46} {:>10} {:>10} {:>7}",
-        "proved ns", "plain ns", "ratio"
-    );
+    times
+        .iter_mut()
+        .for_each(|time| *time /= asked.len() as f64);
+    fastest(&times, sides.peers)
 }
 
 /// The same size with a name and a group less, so that one more of each fits.
@@ -173,63 +174,43 @@ pub fn roomy(size: Size) -> Size {
     }
 }
 
-/// The test, each command on both sizes of table, the calls that move most free nodes, and opening: a table each.
+/// Each command on three sizes of table, the calls that move most free nodes, and opening: a table each.
 pub fn times(seed: u64) {
     let mut prng = Prng::new(seed);
-    tests(&mut prng);
-    for (what, size) in [("full table", FULL), ("small table", SMALL)] {
-        heading(&format!("{what}, with the test"));
-        commands(&mut prng, &Which::COMMANDS, size, TESTED, TESTED_CALLS);
-        heading(&format!("{what}, without the test"));
-        commands(&mut prng, &Which::COMMANDS, size, UNTESTED, CALLS);
+    for (what, size) in MAIN_SIZES {
+        for sides in [TESTED, COLD, UNTESTED] {
+            heading(&format!("{what}, {}", sides.what));
+            commands(&mut prng, &Which::COMMANDS, size, sides);
+        }
     }
     free_nodes();
     opening(&mut prng);
 }
 
-/// The test on random tables of both sizes, and on three that are chosen.
-fn tests(prng: &mut Prng) {
-    heading("the soundness test");
-    for (what, size, bar) in [
-        ("full table", FULL, BAR),
-        ("small table", SMALL, SMALL_TEST_BAR),
-    ] {
-        let tables: Vec<Vec<u64>> = (0..2).map(|_| table(prng, size)).collect();
-        row(what, test_timed(&tables), bar);
-    }
-    let one_number = full_with(prng, |group, _| 1 + group);
-    let one_mark = full_with(prng, |_, k| 40_960 - 32 * k);
-    for (what, words) in [
-        ("full, one number on every host", one_number),
-        ("full, each namespace of one mark", one_mark),
-        ("64 free nodes in two groups", halves(false, false)),
-    ] {
-        row(what, test_timed(&[words]), BAR);
+/// Calls of each of these commands on tables of this size.
+pub fn commands(prng: &mut Prng, all: &[Which], size: Size, sides: Sides) {
+    for &which in all {
+        let grows = matches!(which, Which::RegisterName | Which::NewSGroup);
+        let size = if grows { roomy(size) } else { size };
+        let tables: Vec<Vec<u64>> = (0..sides.tables).map(|_| table(prng, size)).collect();
+        let on_each = sides.calls / sides.tables;
+        let asked: Vec<Asked> = tables
+            .iter()
+            .flat_map(|words| main_cases(prng, which, words, on_each))
+            .collect();
+        row_of(&format!("{which:?}"), sides, which, &tables, &asked);
     }
 }
 
-/// So many calls of each of these commands on a table of this size.
-pub fn commands(prng: &mut Prng, all: &[Which], size: Size, sides: Sides, many: usize) {
-    for &which in all {
-        let grows = matches!(which, Which::RegisterName | Which::NewSGroup);
-        let words = table(prng, if grows { roomy(size) } else { size });
-        let asked = main_cases(prng, which, &words, many);
-        row(
-            &format!("{which:?}"),
-            timed(sides, which, &words, &asked),
-            BAR,
-        );
-    }
+/// The row of these calls.
+pub fn row_of(what: &str, sides: Sides, which: Which, tables: &[Vec<u64>], asked: &[Asked]) {
+    row(what, &timed(sides, which, tables, asked), sides.bar);
 }
 
 fn free_nodes() {
     heading("32 of 64 free nodes, without the test");
     for (what, which, words, one) in free_rows() {
-        row(
-            what,
-            timed(UNTESTED, which, &words, &[one; SAME_CALLS]),
-            BAR,
-        );
+        row_of(what, UNTESTED, which, &[words], &[one; TESTED_CALLS]);
     }
 }
 
@@ -241,11 +222,7 @@ fn opening(prng: &mut Prng) {
         set: 5,
         ..Asked::default()
     };
-    row(
-        "Open",
-        timed(TESTED, Which::Open, &any, &[one; SAME_CALLS]),
-        BAR,
-    );
+    row_of("Open", UNTESTED, Which::Open, &[any], &[one; TESTED_CALLS]);
 }
 
 /// The calls that move most free nodes.
@@ -285,39 +262,4 @@ pub fn free_rows() -> [(&'static str, Which, Vec<u64>, Asked); 5] {
             Asked { p: far, ..none },
         ),
     ]
-}
-
-/// How the test and a lookup grow with the roster, the s_groups and the names, each doubled.
-pub fn growth(seed: u64) {
-    let mut prng = Prng::new(seed);
-    let mut one = |what: String, size: Size| {
-        let words = table(&mut prng, size);
-        row(&what, test_timed(&[words]), BAR);
-    };
-    heading("the test as the roster grows");
-    for nodes in [4, 8, 16, 32, 64] {
-        one(
-            format!("{nodes} nodes, 8 groups of {} nodes, 8 names", nodes / 4),
-            Size {
-                nodes,
-                groups: 8,
-                members: nodes / 4,
-                names: 8,
-            },
-        );
-    }
-    heading("the test as the s_groups grow");
-    for groups in [1, 2, 4, 8, 16, 32] {
-        one(
-            format!("64 nodes, {groups} groups of 16 nodes, {BODY} names"),
-            Size { groups, ..FULL },
-        );
-    }
-    heading("the test as the names grow");
-    for names in [1, 2, 4, 8, 16, 32] {
-        one(
-            format!("64 nodes, 32 groups of 16 nodes, {names} names"),
-            Size { names, ..FULL },
-        );
-    }
 }

@@ -1,5 +1,8 @@
 //! The functions of one side with an index beside the table, as pointers, so that the same loops time both.
 
+use crate::plain::indexed::api;
+use crate::plain::test::{peers, Marks, Peer};
+
 type Run = *mut u64;
 
 /// One side, and the proved functions: a table and an index, the arguments of each, the answer.
@@ -40,4 +43,7 @@ functions! {
     write = sgroup_index();
 }
 
-pub const PLAIN: IndexApi = crate::plain::indexed::API;
+pub const PLAIN: IndexApi = api::<Marks>();
+
+/// The plain functions with each of the tests of a table.
+pub const PEERS: &[Peer<IndexApi>] = peers!(api);

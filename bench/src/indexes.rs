@@ -3,16 +3,17 @@
 //! searches of a full table where it meets them again and again.
 
 use crate::agree::call_of;
-use crate::api::{PLAIN, PROVED};
+use crate::api::Api;
 use crate::call::{self, Asked, Which};
-use crate::commands::{main_cases, roomy, BAR};
+use crate::commands::{main_cases, roomy, BAR, TESTED};
 use crate::index_api::{self, IndexApi};
 use crate::index_call::{call, outcome, Called, Lent};
 use crate::plain::index::write;
-use crate::plain::sizes::{Index, BODIES, BODY, CONTENTS, INDEX_WORDS};
-use crate::race::{best, race};
+use crate::plain::sizes::{Index, BODIES, BODY, CONTENTS, INDEX_WORDS, PIDS_PER_HOST};
+use crate::race::{best, Plan};
+use crate::rows::{fastest, fastest_peer, heading, heading_with, row, row_with, Times};
 use crate::strangers::STRANGER;
-use crate::tables::{table, Size, FULL, SMALL};
+use crate::tables::{table, Size, FULL, SMALL, STORE};
 use compare::index_case::Case;
 use compare::index_random::{Faults, Walk, STEPS};
 use model::index::IndexRequest;
@@ -27,19 +28,11 @@ const POOL: usize = 64;
 /// Rounds of calls on a full table, and on a smaller one.
 const ROUNDS: usize = 100;
 const SMALL_ROUNDS: usize = 400;
-const PIDS_PER_HOST: u64 = 1 << 26;
 /// The reason of an index that is wrong.
 const MISMATCH: u32 = 22;
 
-/// As a store has it.
-const STORE: Size = Size {
-    nodes: 8,
-    groups: 2,
-    members: 4,
-    names: 8,
-};
-
-const SIDES: [&IndexApi; 2] = [&index_api::PROVED, &index_api::PLAIN];
+/// The proved functions and plain ones.
+const BOTH: [&IndexApi; 2] = [&index_api::PROVED, &index_api::PLAIN];
 
 /// Which pids the names of a table have.
 #[derive(Clone, Copy)]
@@ -172,7 +165,7 @@ pub fn agree(seed: u64) -> Agreed {
         for _ in 0..STEPS {
             for (_, case) in walk.step(&mut faults) {
                 let (called, asked, lent) = call_of_case(&case);
-                let [ours, theirs] = SIDES.map(|api| outcome(api, called, lent.clone(), &asked));
+                let [ours, theirs] = BOTH.map(|api| outcome(api, called, lent.clone(), &asked));
                 assert!(ours == theirs, "{case:?}");
                 *returned.entry(ours.0).or_default() += 1;
             }
@@ -190,77 +183,128 @@ pub fn agree(seed: u64) -> Agreed {
 
 // ---- times
 
-/// Nanoseconds a call: of the proved side and the plain one with an index, then of both without one.
+/// Nanoseconds a call with an index and without one, each of the proved side and of its peers.
 struct Nanos {
-    indexed: [f64; 2],
-    without: [f64; 2],
+    indexed: Vec<f64>,
+    without: Vec<f64>,
 }
 
-/// Times a call on each of the tables; beside it the command without an index, on the same tables. The time of an empty turn is subtracted.
+impl Nanos {
+    /// With an index.
+    fn whole(&self) -> Times {
+        fastest(&self.indexed, index_api::PEERS)
+    }
+
+    /// What the index costs.
+    fn more(&self) -> Times {
+        let more = |side: usize| self.indexed[side] - self.without[side];
+        Times {
+            ours: more(0),
+            theirs: more(fastest_peer(&self.indexed)),
+            ..self.whole()
+        }
+    }
+
+    /// The line with the proved call without an index beside the one with it.
+    fn row_beside(&self, what: &str) {
+        let (whole, without) = (self.whole(), self.without[0]);
+        let more = format!(" {without:>10.1} {:>7.2}", whole.ours / without);
+        row_with(what, &whole, &more, BAR);
+    }
+}
+
+/// The line above such lines.
+fn heading_beside(what: &str) {
+    heading_with(what, "   no index   times");
+}
+
+/// The proved side and its peers, with an index and without one, and the runs that are lent to them.
+struct Sides {
+    indexed: Vec<&'static IndexApi>,
+    without: Vec<&'static Api>,
+    lent: Lent,
+    lent_without: call::Lent,
+}
+
+impl Sides {
+    fn new(first: &Turn) -> Sides {
+        let plain = index_api::PEERS.iter().map(|peer| &peer.functions);
+        Sides {
+            indexed: std::iter::once(&index_api::PROVED).chain(plain).collect(),
+            without: TESTED.all(),
+            lent: first.lent(),
+            lent_without: call::Lent::new(&first.table),
+        }
+    }
+
+    /// Table and index as those of the turn, for this side.
+    fn restore(&mut self, side: usize, turn: &Turn) {
+        if side < self.indexed.len() {
+            self.lent.restore(&turn.table, &turn.index);
+        } else {
+            self.lent_without.restore(&turn.table);
+        }
+    }
+
+    /// A call of this side; past the last, none.
+    #[inline(always)]
+    fn call(&mut self, side: usize, called: Called, without: Which, asked: &Asked) -> u64 {
+        if let Some(api) = self.indexed.get(side) {
+            return u64::from(call(api, called, &mut self.lent, asked));
+        }
+        let lent = std::slice::from_mut(&mut self.lent_without);
+        match self.without.get(side - self.indexed.len()) {
+            Some(api) => call::calls(api, without, lent, &[*asked]),
+            None => u64::from(asked.s),
+        }
+    }
+}
+
+/// Times a call on each of the tables; beside it the command without an index, on the same tables.
 fn timed(called: Called, without: Which, turns: &[Turn]) -> Nanos {
+    let sides = Sides::new(&turns[0]);
+    hold(&sides.indexed, called, turns);
+    let plan = Plan {
+        count: best,
+        rounds: match turns[0].table[2] {
+            0..=8 => SMALL_ROUNDS,
+            _ => ROUNDS,
+        },
+        turns: turns.len(),
+    };
+    let (with_index, bare) = (sides.indexed.len(), sides.without.len());
+    let sides = RefCell::new(sides);
+    let mut times = plan.race(
+        with_index + bare,
+        |side, k| sides.borrow_mut().restore(side, &turns[k]),
+        |side, k| {
+            let mut sides = sides.borrow_mut();
+            sides.call(side, called, without, &turns[k].asked)
+        },
+    );
+    times
+        .iter_mut()
+        .for_each(|time| *time /= turns.len() as f64);
+    let without = times.split_off(with_index);
+    Nanos {
+        indexed: times,
+        without,
+    }
+}
+
+/// Holds the sides to the same answers and words on these turns, and each index to be right.
+fn hold(indexed: &[&IndexApi], called: Called, turns: &[Turn]) {
     for turn in turns {
-        let [ours, theirs] = SIDES.map(|api| outcome(api, called, turn.lent(), &turn.asked));
+        let mut outcomes = indexed
+            .iter()
+            .map(|api| outcome(api, called, turn.lent(), &turn.asked));
+        let first = outcomes.next().expect("a side");
         assert!(
-            ours == theirs && ours.0 != MISMATCH,
+            first.0 != MISMATCH && outcomes.all(|other| other == first),
             "{called:?} {:?}",
             turn.asked
         );
     }
-    let first = &turns[0];
-    let lent = RefCell::new(first.lent());
-    let bare = RefCell::new(call::Lent::new(&first.table));
-    let rounds = match first.table[2] {
-        0..=8 => SMALL_ROUNDS,
-        _ => ROUNDS,
-    };
-    let times: [f64; 5] = race(
-        best,
-        rounds,
-        turns.len(),
-        |side, k| {
-            if side < 2 {
-                lent.borrow_mut().restore(&turns[k].table, &turns[k].index);
-            } else {
-                bare.borrow_mut().restore(&turns[k].table);
-            }
-        },
-        |side, k| {
-            let asked = &turns[k].asked;
-            match side {
-                0 | 1 => u64::from(call(SIDES[side], called, &mut lent.borrow_mut(), asked)),
-                2 | 3 => {
-                    let api = [&PROVED, &PLAIN][side - 2];
-                    let mut bare = bare.borrow_mut();
-                    call::calls(api, without, std::slice::from_mut(&mut bare), &[*asked])
-                }
-                _ => u64::from(asked.s),
-            }
-        },
-    );
-    let [a, b, c, d] = [0, 1, 2, 3].map(|side| (times[side] - times[4]) / turns.len() as f64);
-    Nanos {
-        indexed: [a, b],
-        without: [c, d],
-    }
-}
-
-/// One line: both sides, their ratio, and the proved call without an index beside the one with it.
-fn row(what: &str, [ours, theirs]: [f64; 2], without: Option<f64>) {
-    let ratio = ours / theirs;
-    let mark = if ratio > BAR { "  over the bar" } else { "" };
-    let without = without.map_or_else(String::new, |bare| {
-        format!(" {bare:>10.1} {:>7.2}", ours / bare)
-    });
-    println!("{what:<46} {ours:>10.1} {theirs:>10.1} {ratio:>7.2}{without}{mark}");
-}
-
-/// The line above rows; `without` where they have the call without an index.
-fn heading(what: &str, without: bool) {
-    let more = if without { "   no index   times" } else { "" };
-    println!(
-        "\n{what:<46} {:>10} {:>10} {:>7}{more}",
-        "proved ns", "plain ns", "ratio"
-    );
 }
 
 /// The tables on which tests, reading and writing are timed.
@@ -310,7 +354,7 @@ pub fn times(seed: u64) {
     let mut prng = Prng::new(seed);
     tests(&mut prng);
     for (what, size) in [("full", FULL), ("small", SMALL)] {
-        heading(&format!("with an index, {what} table, both tests"), true);
+        heading_beside(&format!("with an index, {what} table, both tests"));
         for which in Which::COMMANDS {
             commands(&mut prng, which, size);
         }
@@ -322,12 +366,11 @@ pub fn times(seed: u64) {
 /// No function gives the test of the index alone. It is timed as what reading by a pid that nobody has takes, less what own_nodes takes on the same table without
 /// an index: the one tests table and index and looks for the pid, the other tests the table and gathers some words.
 fn tests(prng: &mut Prng) {
-    heading("the test of the index", false);
+    heading("the test of the index");
     for (what, size, pids, any_names) in TABLES {
         let turns = pool(prng, (size, pids, any_names), false);
         let nanos = timed(Called::NamesOf, Which::OwnNodes, &turns);
-        let alone = [0, 1].map(|side| nanos.indexed[side] - nanos.without[side]);
-        row(what, alone, None);
+        row(what, &nanos.more(), BAR);
     }
 }
 
@@ -342,33 +385,30 @@ fn commands(prng: &mut Prng, which: Which, size: Size) {
     };
     let turns: Vec<Turn> = (0..POOL).map(turn).collect();
     let nanos = timed(Called::Beside(which), which, &turns);
-    row(&format!("{which:?}"), nanos.indexed, Some(nanos.without[0]));
+    nanos.row_beside(&format!("{which:?}"));
 }
 
 /// Reading by pid, both tests in it, on pids that are there and on others.
 fn reading(prng: &mut Prng) {
-    heading("reading by pid, both tests", false);
+    heading("reading by pid, both tests");
     for (held, who) in [(true, "a pid held"), (false, "nobody")] {
         for (what, size, pids, any_names) in TABLES {
             let turns = pool(prng, (size, pids, any_names), held);
             let nanos = timed(Called::NamesOf, Which::OwnNodes, &turns);
-            row(&format!("{what}: {who}"), nanos.indexed, None);
+            row(&format!("{what}: {who}"), &nanos.whole(), BAR);
         }
     }
 }
 
 /// Writing, the test of the table in it; and opening, which zeroes.
 fn writing(prng: &mut Prng) {
-    heading("writing the index, with the test of the table", false);
+    heading("writing the index, with the test of the table");
     for (what, size, pids, any_names) in TABLES {
         let turns = pool(prng, (size, pids, any_names), true);
-        row(
-            what,
-            timed(Called::Write, Which::OwnNodes, &turns).indexed,
-            None,
-        );
+        let nanos = timed(Called::Write, Which::OwnNodes, &turns);
+        row(what, &nanos.whole(), BAR);
     }
-    heading("opening 64 nodes with an index", true);
+    heading_beside("opening 64 nodes with an index");
     let opening = Asked {
         n: 64,
         set: 5,
@@ -377,7 +417,7 @@ fn writing(prng: &mut Prng) {
     let turn = |_| Turn::new(with_pids(prng, FULL, Pids::Scattered, false), opening);
     let turns: Vec<Turn> = (0..POOL).map(turn).collect();
     let nanos = timed(Called::Beside(Which::Open), Which::Open, &turns);
-    row("Open", nanos.indexed, Some(nanos.without[0]));
+    nanos.row_beside("Open");
 }
 
 /// Calls whose stack is measured, on two nearly full tables.

@@ -1,10 +1,11 @@
 //! Launches: files and books of a chosen size. Both sides are held to the same answers, places and words on random launches, then timed.
 
-use crate::api::{Api, PLAIN, PROVED};
+use crate::api::{Api, NO_TEST, PLAIN, PROVED};
 use crate::call::Lent;
-use crate::commands::{heading, row, BAR};
+use crate::commands::BAR;
 use crate::plain::sizes::{GROUPS, WORDS};
-use crate::race::{best, race};
+use crate::race::{best, Plan};
+use crate::rows::{heading, row, Times};
 use model::launch_gen::{self, changed, Launch};
 use model::mutate::random_words;
 use model::prng::Prng;
@@ -277,8 +278,8 @@ fn unended(prng: &mut Prng) -> Launch {
     given
 }
 
-/// Nanoseconds a launch of two sides on these by turns, once both give the same. The time of an empty turn is subtracted.
-fn timed(all: &[Launch]) -> (f64, f64) {
+/// Nanoseconds a launch of two sides on these by turns, once both give the same. No launch tests a table.
+fn timed(all: &[Launch]) -> Times {
     let sides = [&PROVED, &PLAIN];
     all.iter().for_each(|given| {
         agreed(&used(), given);
@@ -288,18 +289,24 @@ fn timed(all: &[Launch]) -> (f64, f64) {
     called(&PROVED, &mut lent, &all[0]);
     let once = (start.elapsed().as_nanos() as u64).max(1);
     let rounds = (ROUND_NANOS / once / all.len() as u64).clamp(FEWEST_ROUNDS, MOST_ROUNDS);
-    let [ours, theirs, empty] = race(
-        best,
-        rounds as usize,
-        all.len(),
+    let plan = Plan {
+        count: best,
+        rounds: rounds as usize,
+        turns: all.len(),
+    };
+    let times = plan.race(
+        sides.len(),
         |_, _| {},
         |side, k| match sides.get(side) {
             Some(api) => u64::from(called(api, &mut lent, &all[k])),
             None => all[k].hidden,
         },
     );
-    let launches = all.len() as f64;
-    ((ours - empty) / launches, (theirs - empty) / launches)
+    Times {
+        ours: times[0] / all.len() as f64,
+        theirs: times[1] / all.len() as f64,
+        test: NO_TEST,
+    }
 }
 
 /// The main file, how the time grows, and launches that are there to take long.
@@ -314,7 +321,7 @@ pub fn times(seed: u64) {
             lines,
         } = size;
         let what = format!("{groups} groups of {nodes} nodes, {lines} lines");
-        row(&what, timed(&all), BAR);
+        row(&what, &timed(&all), BAR);
     };
     heading("a launch");
     sized(MAIN);
@@ -332,7 +339,7 @@ pub fn times(seed: u64) {
     }
     heading("launches there to take long");
     for (what, given) in hard(&mut prng) {
-        row(what, timed(&[given]), BAR);
+        row(what, &timed(&[given]), BAR);
     }
 }
 

@@ -3,8 +3,9 @@
 
 use crate::api::{PLAIN, PLAIN_UNTESTED, PROVED, PROVED_UNTESTED};
 use crate::call::{outcome, Asked, Lent, Which};
-use crate::commands::{heading, pick, row, timed, BAR, CALLS, TESTED, TESTED_CALLS, UNTESTED};
+use crate::commands::{pick, row_of, TESTED, UNTESTED};
 use crate::plain::sizes::{BODY, CONTENTS, MEMBERS};
+use crate::rows::heading;
 use crate::tables::{hosted, subset, Size, FULL};
 use model::prng::Prng;
 
@@ -154,14 +155,11 @@ pub fn agree(seed: u64) -> Agreed {
 /// Removals from a full table that drop none, one, half and all names of an s_group, with the test and without.
 pub fn times(seed: u64) {
     let mut prng = Prng::new(seed);
-    for (test, sides, many) in [
-        ("with the test", TESTED, TESTED_CALLS),
-        ("without the test", UNTESTED, CALLS),
-    ] {
-        heading(&format!("names that leave, {test}"));
+    for sides in [TESTED, UNTESTED] {
+        heading(&format!("names that leave, {}", sides.what));
         for (what, leaving) in TIMED {
-            let (words, asked) = leaving.calls(&mut prng, many);
-            row(what, timed(sides, Which::RemoveNodes, &words, &asked), BAR);
+            let (words, asked) = leaving.calls(&mut prng, sides.calls);
+            row_of(what, sides, Which::RemoveNodes, &[words], &asked);
         }
     }
 }

@@ -1,6 +1,6 @@
 //! Times the proved library against plain Rust written for speed, in one run, and prints the ratios: `bench SEED [PROGRAM WORD..]`. First both are held to
 //! the same answers and words on random calls, with an index and without, removals, lookups, namespaces and launches, and to the same lines on the scripts; `bench agree SEED [PROGRAM WORD..]` does that
-//! alone, and holds the stack of each call to its bar. `bench launch-file SEED` prints the launch file that is timed first.
+//! alone, and holds the stack of each call to its bar. `bench main-rows SEED` times the test on the main tables alone, and `bench launch-file SEED` prints the launch file that is timed first.
 //! Needs target/native/libsgroup_c.a; `bench/run` builds it, and gives the words that run the script program.
 
 mod agree;
@@ -15,7 +15,9 @@ mod leaving;
 mod namespaces;
 mod plain;
 mod race;
+mod rows;
 mod scripts;
+mod soundness;
 mod stack;
 mod strangers;
 mod tables;
@@ -23,14 +25,17 @@ mod tables;
 /// Walks of random calls on which both sides agree.
 const WALKS: u64 = 200;
 
-/// The word by which both sides are only held to the same, and nothing is timed; and the one by which the main launch file is printed.
+/// The word by which both sides are only held to the same, and nothing is timed; the one by which only the main rows of the test are timed; and the one by which the main
+/// launch file is printed.
 const AGREE: &str = "agree";
+const MAIN_ROWS: &str = "main-rows";
 const LAUNCH_FILE: &str = "launch-file";
 
 fn main() {
     let arguments: Vec<String> = std::env::args().skip(1).collect();
     match arguments.as_slice() {
-        [word] if word == scripts::PLAIN => scripts::run_plain(),
+        [word, test] if word == scripts::PLAIN => scripts::run_plain(test),
+        [word, seed] if word == MAIN_ROWS => soundness::main_rows(number(seed)),
         [word, seed] if word == LAUNCH_FILE => print_launch_file(number(seed)),
         [word, seed, program @ ..] if word == AGREE => agree_only(number(seed), program),
         [seed, program @ ..] => times(number(seed), program),
@@ -43,7 +48,7 @@ fn number(seed: &str) -> u64 {
 }
 
 fn usage() -> ! {
-    eprintln!("usage: bench [agree] SEED [PROGRAM WORD..] | bench launch-file SEED");
+    eprintln!("usage: bench [agree] SEED [PROGRAM WORD..] | bench main-rows SEED | bench launch-file SEED");
     std::process::exit(2)
 }
 
@@ -119,6 +124,7 @@ fn agree_only(seed: u64, program: &[String]) {
 /// Every table, each once both sides agree.
 fn times(seed: u64, program: &[String]) {
     agree_on_calls(seed);
+    soundness::times(seed);
     commands::times(seed);
     println!();
     agree_on_removals(seed);
@@ -129,7 +135,7 @@ fn times(seed: u64, program: &[String]) {
     println!();
     agree_on_indexes(seed);
     indexes::times(seed);
-    commands::growth(seed);
+    soundness::growth(seed);
     stack::depths(seed);
     println!();
     agree_on_namespaces(seed);

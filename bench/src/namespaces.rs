@@ -1,12 +1,13 @@
-//! Namespaces through what users call: a table of one s_group, whose names are found, registered, taken out and tested. Both sides are held to the same
+//! Namespaces through what users call: a table of one s_group, whose names are found, registered and taken out. Both sides are held to the same
 //! answers and words on random namespaces, sound and unsound, and timed on 4 and 32 names.
 
-use crate::agree::says_sound;
+use crate::agree::same_verdict;
 use crate::api::{PLAIN, PROVED};
 use crate::call::{outcome, Lent, Which};
-use crate::commands::{commands, heading, main_cases, row, test_timed, BAR, CALLS, UNTESTED};
+use crate::commands::{commands, main_cases, UNTESTED};
 use crate::plain::sizes::{BODIES, BODY, CONTENTS};
-use crate::tables::{table, Size};
+use crate::rows::heading;
+use crate::tables::{one_group, table};
 use model::prng::Prng;
 
 /// Finding, adding and dropping a name.
@@ -17,16 +18,6 @@ const NAMING: [Which; 3] = [
 ];
 /// Random namespaces on which both sides agree.
 const AGREED: u64 = 200_000;
-
-/// One s_group with so many names.
-fn one_group(names: usize) -> Size {
-    Size {
-        nodes: 64,
-        groups: 1,
-        members: 16,
-        names,
-    }
-}
 
 /// A change to one name's word or to the count of names, so that the namespace is often unsound.
 fn spoil(prng: &mut Prng, words: &mut [u64]) {
@@ -53,11 +44,7 @@ pub fn agree(seed: u64) -> u64 {
         if round % 2 == 1 {
             spoil(&mut prng, &mut words);
         }
-        assert_eq!(
-            says_sound(&PROVED, &words),
-            says_sound(&PLAIN, &words),
-            "is_sound {words:?}"
-        );
+        same_verdict(&words);
         for (which, asked) in NAMING.into_iter().zip(asked) {
             let ours = outcome(&PROVED, which, Lent::new(&words), asked);
             let theirs = outcome(&PLAIN, which, Lent::new(&words), asked);
@@ -67,13 +54,11 @@ pub fn agree(seed: u64) -> u64 {
     AGREED
 }
 
-/// The commands on names without the test, and the test, for few names and for as many as fit.
+/// The commands on names without the test, for few names and for as many as fit.
 pub fn times(seed: u64) {
     let mut prng = Prng::new(seed);
     for names in [4, BODY] {
-        heading(&format!("one s_group of {names} names, without the test"));
-        commands(&mut prng, &NAMING, one_group(names), UNTESTED, CALLS);
-        let tables = [0; 2].map(|_| table(&mut prng, one_group(names)));
-        row("the test", test_timed(&tables), BAR);
+        heading(&format!("one s_group of {names} names, {}", UNTESTED.what));
+        commands(&mut prng, &NAMING, one_group(names), UNTESTED);
     }
 }

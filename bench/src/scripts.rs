@@ -1,21 +1,29 @@
 //! Whole scripts through the compiled program and through plain Rust, each in a process of its own whose start is among the time.
 
+use crate::plain::script::{printer, Printer};
+use crate::plain::sizes::PIDS_PER_HOST;
+use crate::plain::test::{peers, Peer};
+use crate::rows::{fastest, Times};
 use std::io::Write;
 use std::process::{Command, Stdio};
 use std::time::Instant;
 
 const RUNS: usize = 60;
 
-/// The word by which this program runs a script in plain Rust.
+/// Plain Rust with each of the tests.
+const PEERS: &[Peer<Printer>] = peers!(printer);
+
+/// The word by which this program runs a script in plain Rust; the name of a test comes behind it.
 pub const PLAIN: &str = "plain-script";
 
-/// Runs the script of standard input in plain Rust.
-pub fn run_plain() {
+/// Runs the script of standard input in plain Rust, with the test of this name.
+pub fn run_plain(test: &str) {
+    let peer = PEERS.iter().find(|peer| peer.test == test);
+    let run = peer.expect("the name of a test").functions;
     let mut script = Vec::new();
     std::io::Read::read_to_end(&mut std::io::stdin(), &mut script).expect("a script to read");
-    let printed = crate::plain::script::run(&script);
     std::io::stdout()
-        .write_all(&printed)
+        .write_all(&run(&script))
         .expect("room for what it prints");
 }
 
@@ -49,7 +57,7 @@ fn lookups() -> Vec<u8> {
     }
     for group in 1..=32u64 {
         for name in 1..=32u64 {
-            let pid = name * 67_108_864 + group;
+            let pid = name * PIDS_PER_HOST + group;
             script.push_str(&format!("{group} register_name {group} {name} {pid}\n"));
         }
     }
@@ -73,19 +81,21 @@ fn scripts(seed: u64) -> [(&'static str, Vec<u8>); 3] {
 }
 
 /// The words that run a script in plain Rust.
-fn plain() -> [String; 2] {
+fn plain(test: &str) -> [String; 3] {
     let own = std::env::current_exe().expect("this program's own path");
-    [own.to_string_lossy().into_owned(), PLAIN.to_string()]
+    let own = own.to_string_lossy().into_owned();
+    [own, PLAIN.to_string(), test.to_string()]
 }
 
 /// Holds the program and plain Rust to the same lines on the scripts that are timed; how many there were.
 pub fn agree(seed: u64, program: &[String]) -> usize {
     let scripts = scripts(seed);
     for (what, script) in &scripts {
-        assert!(
-            printed(program, script) == printed(&plain(), script),
-            "{what}: they print the same"
-        );
+        let ours = printed(program, script);
+        for Peer { test, .. } in PEERS {
+            let same = ours == printed(&plain(test), script);
+            assert!(same, "{what}, {test}: they print the same");
+        }
     }
     scripts.len()
 }
@@ -93,21 +103,24 @@ pub fn agree(seed: u64, program: &[String]) -> usize {
 /// The best of many runs of each script by turns, once both print the same.
 pub fn times(seed: u64, program: &[String]) {
     agree(seed, program);
-    let plain = plain();
+    let sides: Vec<Vec<String>> = std::iter::once(program.to_vec())
+        .chain(PEERS.iter().map(|peer| plain(peer.test).to_vec()))
+        .collect();
     println!(
-        "\n{:<30} {:>8} {:>8} {:>10} {:>9} {:>7}",
+        "\n{:<30} {:>8} {:>8} {:>10} {:>9} {:>7}  plain test",
         "whole scripts", "bytes", "lines", "proved ms", "plain ms", "ratio"
     );
     for (what, script) in scripts(seed) {
         let lines = script.iter().filter(|byte| **byte == b'\n').count();
-        let mut best = [f64::MAX; 2];
+        let mut best = vec![f64::MAX; sides.len()];
         for _ in 0..RUNS {
-            best[0] = best[0].min(time(program, &script));
-            best[1] = best[1].min(time(&plain, &script));
+            for (best, side) in best.iter_mut().zip(&sides) {
+                *best = best.min(time(side, &script));
+            }
         }
-        let [ours, theirs] = best;
+        let Times { ours, theirs, test } = fastest(&best, PEERS);
         println!(
-            "{what:<30} {:>8} {lines:>8} {ours:>10.2} {theirs:>9.2} {:>7.2}",
+            "{what:<30} {:>8} {lines:>8} {ours:>10.2} {theirs:>9.2} {:>7.2}  {test}",
             script.len(),
             ours / theirs
         );

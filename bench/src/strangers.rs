@@ -3,10 +3,9 @@
 
 use crate::api::{PLAIN, PLAIN_UNTESTED, PROVED, PROVED_UNTESTED};
 use crate::call::{outcome, Asked, Lent, Which};
-use crate::commands::{
-    heading, main_cases, pick, row, timed, BAR, CALLS, TESTED, TESTED_CALLS, UNTESTED,
-};
+use crate::commands::{main_cases, pick, row_of, TESTED, UNTESTED};
 use crate::plain::sizes::BODY;
+use crate::rows::heading;
 use crate::tables::{hosted, Size, FULL, SMALL};
 use model::prng::Prng;
 
@@ -122,21 +121,15 @@ pub fn agree(seed: u64) -> Agreed {
 pub fn times(seed: u64) {
     let mut prng = Prng::new(seed);
     for (table, size) in SIZES {
-        for (test, sides, many) in [
-            ("with the test", TESTED, TESTED_CALLS),
-            ("without the test", UNTESTED, CALLS),
-        ] {
-            heading(&format!("strangers, {table}, {test}"));
+        for sides in [TESTED, UNTESTED] {
+            heading(&format!("strangers, {table}, {}", sides.what));
             for which in Which::LOOKUPS {
                 for (what, hosts) in TIMED {
                     let words = hosts.table(&mut prng, size);
-                    let asked = main_cases(&mut prng, which, &words, many);
+                    let asked = main_cases(&mut prng, which, &words, sides.calls);
                     hosts.held(which, &words, &asked);
-                    row(
-                        &format!("{which:?}, {what}"),
-                        timed(sides, which, &words, &asked),
-                        BAR,
-                    );
+                    let what = format!("{which:?}, {what}");
+                    row_of(&what, sides, which, &[words], &asked);
                 }
             }
         }

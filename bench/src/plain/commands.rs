@@ -1,9 +1,9 @@
-//! The plain functions with the interface of the proved library: lent runs as pointers and lengths, with the test before each step or without.
+//! The plain functions with the interface of the proved library: lent runs as pointers and lengths, and a test before each step.
 
 use super::launch;
 use super::sizes::Table;
-use super::sound;
 use super::steps::{self, error, Answer};
+use super::test::Test;
 use crate::api::Api;
 use std::slice::{from_raw_parts, from_raw_parts_mut};
 
@@ -15,36 +15,22 @@ pub fn put(run: &mut [u64], answer: Answer) -> u32 {
     answer[3] as u32
 }
 
-/// The test, or one that says true at once: a call in both cases, as on the proved side.
-#[inline(never)]
-fn passes<const TEST: bool>(table: &Table) -> bool {
-    if TEST {
-        sound::is_sound(table)
-    } else {
-        std::hint::black_box(true)
-    }
-}
-
 /// The step on a table that passes.
 #[inline(always)]
-fn on<const TEST: bool>(
-    table: &mut [u64],
-    run: &mut [u64],
-    step: impl FnOnce(&mut Table) -> Answer,
-) -> u32 {
+fn on<T: Test>(table: &mut [u64], run: &mut [u64], step: impl FnOnce(&mut Table) -> Answer) -> u32 {
     if run.len() < ANSWER_WORDS {
         return u32::MAX;
     }
     let answer = match <&mut Table>::try_from(table) {
         Err(_) => error(1),
-        Ok(table) if !passes::<TEST>(table) => error(3),
+        Ok(table) if !T::passes(table) => error(3),
         Ok(table) => step(table),
     };
     put(run, answer)
 }
 
-unsafe extern "C" fn is_sound(t: *const u64, len: usize) -> bool {
-    <&Table>::try_from(from_raw_parts(t, len)).is_ok_and(sound::is_sound)
+unsafe extern "C" fn is_sound<T: Test>(t: *const u64, len: usize) -> bool {
+    <&Table>::try_from(from_raw_parts(t, len)).is_ok_and(T::passes)
 }
 
 unsafe extern "C" fn open(
@@ -96,8 +82,8 @@ unsafe extern "C" fn launch(
 /// A command of numbers that writes no list.
 macro_rules! command {
     ($name:ident ($($arg:ident : $width:ty),*)) => {
-        unsafe extern "C" fn $name<const TEST: bool>(t: *mut u64, len: usize, caller: u32, $($arg: $width,)* a: *mut u64, room: usize) -> u32 {
-            on::<TEST>(from_raw_parts_mut(t, len), from_raw_parts_mut(a, room), |table| steps::$name(table, caller, $($arg),*))
+        unsafe extern "C" fn $name<T: Test>(t: *mut u64, len: usize, caller: u32, $($arg: $width,)* a: *mut u64, room: usize) -> u32 {
+            on::<T>(from_raw_parts_mut(t, len), from_raw_parts_mut(a, room), |table| steps::$name(table, caller, $($arg),*))
         }
     };
 }
@@ -105,9 +91,9 @@ macro_rules! command {
 /// A command that writes a list.
 macro_rules! list {
     ($name:ident ($($arg:ident : $width:ty),*)) => {
-        unsafe extern "C" fn $name<const TEST: bool>(t: *mut u64, len: usize, caller: u32, $($arg: $width,)* o: *mut u64, out_len: usize, a: *mut u64, room: usize) -> u32 {
+        unsafe extern "C" fn $name<T: Test>(t: *mut u64, len: usize, caller: u32, $($arg: $width,)* o: *mut u64, out_len: usize, a: *mut u64, room: usize) -> u32 {
             let out = from_raw_parts_mut(o, out_len);
-            on::<TEST>(from_raw_parts_mut(t, len), from_raw_parts_mut(a, room), |table| steps::$name(table, caller, $($arg,)* out))
+            on::<T>(from_raw_parts_mut(t, len), from_raw_parts_mut(a, room), |table| steps::$name(table, caller, $($arg,)* out))
         }
     };
 }
@@ -128,26 +114,26 @@ command!(delete_s_group(s: u32));
 command!(own_nodes());
 list!(own_s_groups());
 
-/// The plain functions, each command with the test before its step or without.
-pub const fn api<const TEST: bool>() -> Api {
+/// The plain functions, each command with this test before its step.
+pub const fn api<T: Test>() -> Api {
     Api {
-        is_sound,
+        is_sound: is_sound::<T>,
         open,
-        register_name: register_name::<TEST>,
-        re_register_name: re_register_name::<TEST>,
-        unregister_name: unregister_name::<TEST>,
-        registered_names: registered_names::<TEST>,
-        whereis_name: whereis_name::<TEST>,
-        whereis_name_at: whereis_name_at::<TEST>,
-        send: send::<TEST>,
-        send_name: send_name::<TEST>,
-        send_at: send_at::<TEST>,
-        new_s_group: new_s_group::<TEST>,
-        add_nodes: add_nodes::<TEST>,
-        remove_nodes: remove_nodes::<TEST>,
-        delete_s_group: delete_s_group::<TEST>,
-        own_nodes: own_nodes::<TEST>,
-        own_s_groups: own_s_groups::<TEST>,
+        register_name: register_name::<T>,
+        re_register_name: re_register_name::<T>,
+        unregister_name: unregister_name::<T>,
+        registered_names: registered_names::<T>,
+        whereis_name: whereis_name::<T>,
+        whereis_name_at: whereis_name_at::<T>,
+        send: send::<T>,
+        send_name: send_name::<T>,
+        send_at: send_at::<T>,
+        new_s_group: new_s_group::<T>,
+        add_nodes: add_nodes::<T>,
+        remove_nodes: remove_nodes::<T>,
+        delete_s_group: delete_s_group::<T>,
+        own_nodes: own_nodes::<T>,
+        own_s_groups: own_s_groups::<T>,
         launch,
     }
 }

@@ -3,8 +3,8 @@
 use super::commands::{put, ANSWER_WORDS};
 use super::index;
 use super::sizes::{Index, Table};
-use super::sound::is_sound;
 use super::steps::{self, error, Answer};
+use super::test::Test;
 use crate::index_api::IndexApi;
 use std::slice::{from_raw_parts, from_raw_parts_mut};
 
@@ -12,7 +12,7 @@ type Run = *mut u64;
 
 /// The step on a sound table with its index, and how many rows that has.
 #[inline(always)]
-fn on(
+fn on<T: Test>(
     table: &mut [u64],
     index: &mut [u64],
     run: &mut [u64],
@@ -23,7 +23,7 @@ fn on(
     }
     let answer = match (<&mut Table>::try_from(table), <&mut Index>::try_from(index)) {
         (Err(_), _) => error(1),
-        (Ok(t), _) if !is_sound(t) => error(3),
+        (Ok(t), _) if !T::passes(t) => error(3),
         (Ok(t), Ok(x)) if index::is_right(t, x) => {
             let many = index::total(t);
             step(t, x, many)
@@ -113,8 +113,8 @@ fn delete_s_group(t: &mut Table, x: &mut Index, many: usize, caller: u32, s: u32
 /// Commands that change rows.
 macro_rules! keeps {
     ($($name:ident($($arg:ident: $width:ty),*);)*) => {
-        $(pub unsafe extern "C" fn $name(t: Run, len: usize, x: Run, many: usize, caller: u32, $($arg: $width,)* a: Run, room: usize) -> u32 {
-            on(from_raw_parts_mut(t, len), from_raw_parts_mut(x, many), from_raw_parts_mut(a, room), |t, x, many| super::$name(t, x, many, caller, $($arg),*))
+        $(pub unsafe extern "C" fn $name<T: Test>(t: Run, len: usize, x: Run, many: usize, caller: u32, $($arg: $width,)* a: Run, room: usize) -> u32 {
+            on::<T>(from_raw_parts_mut(t, len), from_raw_parts_mut(x, many), from_raw_parts_mut(a, room), |t, x, many| super::$name(t, x, many, caller, $($arg),*))
         })*
     };
 }
@@ -122,8 +122,8 @@ macro_rules! keeps {
 /// Commands that leave them.
 macro_rules! leaves {
     ($($name:ident($($arg:ident: $width:ty),*);)*) => {
-        $(pub unsafe extern "C" fn $name(t: Run, len: usize, x: Run, many: usize, caller: u32, $($arg: $width,)* a: Run, room: usize) -> u32 {
-            on(from_raw_parts_mut(t, len), from_raw_parts_mut(x, many), from_raw_parts_mut(a, room), |t, _, _| steps::$name(t, caller, $($arg),*))
+        $(pub unsafe extern "C" fn $name<T: Test>(t: Run, len: usize, x: Run, many: usize, caller: u32, $($arg: $width,)* a: Run, room: usize) -> u32 {
+            on::<T>(from_raw_parts_mut(t, len), from_raw_parts_mut(x, many), from_raw_parts_mut(a, room), |t, _, _| steps::$name(t, caller, $($arg),*))
         })*
     };
 }
@@ -131,16 +131,16 @@ macro_rules! leaves {
 /// Commands that write a list.
 macro_rules! lists {
     ($($name:ident($($arg:ident: $width:ty),*);)*) => {
-        $(pub unsafe extern "C" fn $name(t: Run, len: usize, x: Run, many: usize, caller: u32, $($arg: $width,)* o: Run, out_len: usize, a: Run, room: usize) -> u32 {
+        $(pub unsafe extern "C" fn $name<T: Test>(t: Run, len: usize, x: Run, many: usize, caller: u32, $($arg: $width,)* o: Run, out_len: usize, a: Run, room: usize) -> u32 {
             let out = from_raw_parts_mut(o, out_len);
-            on(from_raw_parts_mut(t, len), from_raw_parts_mut(x, many), from_raw_parts_mut(a, room), |t, _, _| steps::$name(t, caller, $($arg,)* out))
+            on::<T>(from_raw_parts_mut(t, len), from_raw_parts_mut(x, many), from_raw_parts_mut(a, room), |t, _, _| steps::$name(t, caller, $($arg,)* out))
         })*
     };
 }
 
 /// The commands as they are called.
 mod calls {
-    use super::{from_raw_parts_mut, on, steps, Run};
+    use super::{from_raw_parts_mut, on, steps, Run, Test};
 
     keeps! {
         register_name(s: u32, n: u32, p: u32);
@@ -195,7 +195,7 @@ unsafe extern "C" fn open(
     put(run, answer)
 }
 
-unsafe extern "C" fn names_of(
+unsafe extern "C" fn names_of<T: Test>(
     t: Run,
     len: usize,
     x: Run,
@@ -207,7 +207,7 @@ unsafe extern "C" fn names_of(
     room: usize,
 ) -> u32 {
     let out = from_raw_parts_mut(o, out_len);
-    on(
+    on::<T>(
         from_raw_parts_mut(t, len),
         from_raw_parts_mut(x, many),
         from_raw_parts_mut(a, room),
@@ -228,7 +228,14 @@ unsafe extern "C" fn names_of(
     )
 }
 
-unsafe extern "C" fn write(t: Run, len: usize, x: Run, many: usize, a: Run, room: usize) -> u32 {
+unsafe extern "C" fn write<T: Test>(
+    t: Run,
+    len: usize,
+    x: Run,
+    many: usize,
+    a: Run,
+    room: usize,
+) -> u32 {
     let (table, index) = (from_raw_parts(t, len), from_raw_parts_mut(x, many));
     let run = from_raw_parts_mut(a, room);
     if room < ANSWER_WORDS {
@@ -236,7 +243,7 @@ unsafe extern "C" fn write(t: Run, len: usize, x: Run, many: usize, a: Run, room
     }
     let answer = match (<&Table>::try_from(table), <&mut Index>::try_from(index)) {
         (Err(_), _) => error(1),
-        (Ok(t), _) if !is_sound(t) => error(3),
+        (Ok(t), _) if !T::passes(t) => error(3),
         (Ok(_), Err(_)) => error(22),
         (Ok(t), Ok(x)) => {
             index::write(t, x);
@@ -246,24 +253,26 @@ unsafe extern "C" fn write(t: Run, len: usize, x: Run, many: usize, a: Run, room
     put(run, answer)
 }
 
-/// The plain functions.
-pub const API: IndexApi = IndexApi {
-    open,
-    register_name: calls::register_name,
-    re_register_name: calls::re_register_name,
-    unregister_name: calls::unregister_name,
-    registered_names: calls::registered_names,
-    whereis_name: calls::whereis_name,
-    whereis_name_at: calls::whereis_name_at,
-    send: calls::send,
-    send_name: calls::send_name,
-    send_at: calls::send_at,
-    new_s_group: calls::new_s_group,
-    add_nodes: calls::add_nodes,
-    remove_nodes: calls::remove_nodes,
-    delete_s_group: calls::delete_s_group,
-    own_nodes: calls::own_nodes,
-    own_s_groups: calls::own_s_groups,
-    names_of,
-    write,
-};
+/// The plain functions, with this test of the table.
+pub const fn api<T: Test>() -> IndexApi {
+    IndexApi {
+        open,
+        register_name: calls::register_name::<T>,
+        re_register_name: calls::re_register_name::<T>,
+        unregister_name: calls::unregister_name::<T>,
+        registered_names: calls::registered_names::<T>,
+        whereis_name: calls::whereis_name::<T>,
+        whereis_name_at: calls::whereis_name_at::<T>,
+        send: calls::send::<T>,
+        send_name: calls::send_name::<T>,
+        send_at: calls::send_at::<T>,
+        new_s_group: calls::new_s_group::<T>,
+        add_nodes: calls::add_nodes::<T>,
+        remove_nodes: calls::remove_nodes::<T>,
+        delete_s_group: calls::delete_s_group::<T>,
+        own_nodes: calls::own_nodes::<T>,
+        own_s_groups: calls::own_s_groups::<T>,
+        names_of: names_of::<T>,
+        write: write::<T>,
+    }
+}

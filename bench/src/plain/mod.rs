@@ -8,4 +8,6 @@ pub mod namespace;
 pub mod script;
 pub mod sizes;
 pub mod sound;
+pub mod stamps;
 pub mod steps;
+pub mod test;

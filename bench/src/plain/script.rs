@@ -1,8 +1,8 @@
 //! A whole script in plain Rust, written for speed: what the script program prints.
 
 use super::sizes::{Table, WORDS};
-use super::sound::is_sound;
 use super::steps::{self, error, Answer};
+use super::test::Test;
 
 const LONGEST_SCRIPT: usize = 65_536;
 const LONGEST_LINE: usize = 120;
@@ -25,8 +25,16 @@ const WORDS_OUT: [&[u8]; 10] = [
     b"list",
 ];
 
+/// Gives what a script prints.
+pub type Printer = fn(&[u8]) -> Vec<u8>;
+
+/// The one with this test in each call.
+pub const fn printer<T: Test>() -> Printer {
+    run::<T>
+}
+
 /// What the script prints, from a table of zero words.
-pub fn run(script: &[u8]) -> Vec<u8> {
+fn run<T: Test>(script: &[u8]) -> Vec<u8> {
     if script.len() > LONGEST_SCRIPT {
         return b"too-long\n".to_vec();
     }
@@ -39,7 +47,7 @@ pub fn run(script: &[u8]) -> Vec<u8> {
         let line = end
             .filter(|end| *end <= LONGEST_LINE)
             .map(|end| &rest[..end]);
-        match line.and_then(|line| called(&mut table, line, &mut list)) {
+        match line.and_then(|line| called::<T>(&mut table, line, &mut list)) {
             Some(answer) => put(&mut out, answer, &list),
             None => out.extend_from_slice(b"bad-line\n"),
         }
@@ -79,7 +87,7 @@ fn fields(line: &[u8]) -> Option<([&[u8]; FIELDS], usize)> {
 }
 
 /// The line's answer; none for a line that is not of the form.
-fn called(table: &mut Table, line: &[u8], list: &mut [u64]) -> Option<Answer> {
+fn called<T: Test>(table: &mut Table, line: &[u8], list: &mut [u64]) -> Option<Answer> {
     let ([first, word, a, b, c], count) = fields(line)?;
     if first == b"open" {
         let (n, hidden) = (half(word)?, wide(a)?);
@@ -90,7 +98,7 @@ fn called(table: &mut Table, line: &[u8], list: &mut [u64]) -> Option<Answer> {
     macro_rules! step {
         ($name:ident ( $($field:ident : $width:ident),* ) $($list:ident)?) => {{
             $(let $field = $width($field)?;)*
-            tested(table, |t| steps::$name(t, i, $($field,)* $($list)?))
+            tested::<T>(table, |t| steps::$name(t, i, $($field,)* $($list)?))
         }};
     }
     Some(match (word, count) {
@@ -114,8 +122,8 @@ fn called(table: &mut Table, line: &[u8], list: &mut [u64]) -> Option<Answer> {
 }
 
 /// The step on a table that is sound.
-fn tested(table: &mut Table, step: impl FnOnce(&mut Table) -> Answer) -> Answer {
-    if is_sound(table) {
+fn tested<T: Test>(table: &mut Table, step: impl FnOnce(&mut Table) -> Answer) -> Answer {
+    if T::passes(table) {
         step(table)
     } else {
         error(3)

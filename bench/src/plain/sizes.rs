@@ -5,6 +5,9 @@ pub const ROSTER: usize = 64;
 pub const GROUPS: usize = 32;
 pub const BODY: usize = 32;
 
+/// Pids that a node can give.
+pub const PIDS_PER_HOST: u64 = 1 << 26;
+
 /// Where the contents begin, the members, the connections, the free groups, the names; and the words of a table.
 pub const CONTENTS: usize = 4;
 pub const MEMBERS: usize = CONTENTS + GROUPS;

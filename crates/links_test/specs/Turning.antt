@@ -171,7 +171,7 @@ joined t₀ t₁ t₂ t₃ u =
 
 -- the same of the rows k, 16 + k, 32 + k and 48 + k
 abbrev pub joined-row : List ℕ → ℕ → ℕ → ℕ
-joined-row turned k = joined (word-at turned k) (word-at turned (16 + k)) (word-at turned (32 + k)) (word-at turned (48 + k))
+joined-row turned k = joined (word-at turned k) (word-at turned (unit-rows + k)) (word-at turned (2 * unit-rows + k)) (word-at turned (3 * unit-rows + k))
 
 -- row u and column c come from row c / 16 and column 16 u + c % 16
 abbrev joins : ℕ → ℕ → Bool
@@ -245,13 +245,13 @@ module _ (links turned : List ℕ) (k : ℕ) (lk : k < unit-rows) (t : TurnedBel
   -- nothing differs where the four nodes' connections are mutual
   pub none-off : (v₀ v₁ v₂ v₃ : ℕ) → (v₀ < 2 ^ node-limit) × (v₁ < 2 ^ node-limit) × (v₂ < 2 ^ node-limit) × (v₃ < 2 ^ node-limit)
       → v₀ ≡ joined-row turned k 0 → v₁ ≡ joined-row turned k 1 → v₂ ≡ joined-row turned k 2 → v₃ ≡ joined-row turned k 3
-      → empty (bitOr (bitOr (bitXor v₀ (word-at links k)) (bitXor v₁ (word-at links (16 + k))))
-      (bitOr (bitXor v₂ (word-at links (32 + k))) (bitXor v₃ (word-at links (48 + k))))) ≡ units-mutual links k
+      → empty (bitOr (bitOr (bitXor v₀ (word-at links k)) (bitXor v₁ (word-at links (unit-rows + k))))
+      (bitOr (bitXor v₂ (word-at links (2 * unit-rows + k))) (bitXor v₃ (word-at links (3 * unit-rows + k))))) ≡ units-mutual links k
   none-off v₀ v₁ v₂ v₃ fit e₀ e₁ e₂ e₃ =
-      four-gathered (λ u. all-below node-limit (both-ways links (unit-rows * u + k))) (bitXor v₀ (word-at links k)) (bitXor v₁ (word-at links (16 + k)))
-      (bitXor v₂ (word-at links (32 + k))) (bitXor v₃ (word-at links (48 + k)))
-      (same 0 v₀ k (omega arith) (omega arith) (fit .0) e₀) (same 1 v₁ (16 + k) (omega arith) (omega arith) (fit .1) e₁)
-      (same 2 v₂ (32 + k) (omega arith) (omega arith) (fit .2) e₂) (same 3 v₃ (48 + k) (omega arith) (omega arith) (fit .3) e₃)
+      four-gathered (λ u. all-below node-limit (both-ways links (unit-rows * u + k))) (bitXor v₀ (word-at links k)) (bitXor v₁ (word-at links (unit-rows + k)))
+      (bitXor v₂ (word-at links (2 * unit-rows + k))) (bitXor v₃ (word-at links (3 * unit-rows + k)))
+      (same 0 v₀ k (omega arith) (omega arith) (fit .0) e₀) (same 1 v₁ (unit-rows + k) (omega arith) (omega arith) (fit .1) e₁)
+      (same 2 v₂ (2 * unit-rows + k) (omega arith) (omega arith) (fit .2) e₂) (same 3 v₃ (3 * unit-rows + k) (omega arith) (omega arith) (fit .3) e₃)
 
 -- all 64 nodes are mutual where the four of each row of a unit are
 pub all-units : (links : List ℕ) → all-below unit-rows (units-mutual links) ≡ own-mutual links node-limit

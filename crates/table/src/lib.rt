@@ -63,7 +63,8 @@ fn unused_zero(t: &[u64], g: usize, cap: usize) -> bool
     all_zero(&t[contents..MEMBERS_AT]) & (all_zero(&t[members..LINKS_AT]) & bodies_zero(t, g, cap))
 }
 
-// Whether all that follows contents and members is right, for g s_groups of at most `cap` names, n nodes, and those of them in an s_group. In the order in which it stands.
+// Whether all that follows contents and members is right, for g s_groups of at most `cap` names, n nodes, and those of them in an s_group. It goes
+// through the table from front to back.
 fn rest_sound(t: &[u64], g: usize, n: u32, cap: usize, grouped: u64) -> bool
     requires { ⌜ (length (now t) ≡ table-words cap) × (g ≤ group-limit) ⌝ }
     ensures { λ r. ⌜ r ≡ rest-right cap (now (t .entry)) g n grouped ⌝ }

@@ -4,8 +4,9 @@ use walk::Atom;
 use walk::Entry;
 use walk::Step;
 ghost use mathlib.Core.Path.{_≡_};
-ghost use Prim.Native.Nat.{ℕ, _*_, _≤_};
+ghost use Prim.Native.Nat.{ℕ, _≤_};
 ghost use lib.ListN.{length};
+ghost use Rattle.pairs.specs.Woven.{woven};
 ghost use Rattle.semantics.specs.Sizes.{group-limit};
 ghost use Rattle.book.specs.Index.{Indexed};
 ghost use Rattle.gathering.specs.Gathering.{seen, Noded, Planned};
@@ -23,14 +24,14 @@ enum Met {
 }
 
 // Whether a number is that of one of the first groups written.
-fn seen(words: &[u64], count: usize, number: u64) -> bool
-    requires { ⌜ (length (now words) ≡ 2 * group-limit) × (count ≤ group-limit) ⌝ }
-    ensures { λ r. ⌜ r ≡ seen (now (words .entry)) count number ⌝ }
+fn seen(numbers: &[u16], count: usize, number: u16) -> bool
+    requires { ⌜ (length (now numbers) ≡ group-limit) × (count ≤ group-limit) ⌝ }
+    ensures { λ r. ⌜ r ≡ seen (now (numbers .entry)) count number ⌝ }
 {
     let mut i = 0;
     let mut found = false;
     while i < count {
-        found = found | (words[2 * i] == number);
+        found = found | (numbers[i] == number);
         i += 1;
     }
     found
@@ -69,19 +70,20 @@ fn nodes_at(text: &[u8], at: usize, book: &[u8], n: u32, index: &[u8]) -> Met
     }
 }
 
-// The groups of the list whose bracket stands in front of g, by a book for n nodes. Where each is in the book and no two have one name, the first words have a
-// number and a set for each.
+// The groups of the list whose bracket stands in front of g, by a book for n nodes. Where each is in the book and no two have one name, the first numbers and
+// sets are theirs.
 pub fn gather(
     text: &[u8],
     g: usize,
     book: &[u8],
     n: u32,
     index: &[u8],
-    words: &mut [u64],
+    numbers: &mut [u16],
+    sets: &mut [u64],
 ) -> Gathered
     requires { ⌜ Indexed n (now book) (now index) ⌝ }
-    requires { ⌜ length (now words) ≡ 2 * group-limit ⌝ }
-    ensures { λ r. ⌜ ((k e : ℕ) → r ≡ Gathered.Made k e → Planned n (now (book .entry)) (now (text .entry)) g (now (words .exit)) k e) ⌝ }
+    requires { ⌜ (length (now numbers) ≡ group-limit) × (length (now sets) ≡ group-limit) ⌝ }
+    ensures { λ r. ⌜ ((k e : ℕ) → r ≡ Gathered.Made k e → Planned n (now (book .entry)) (now (text .entry)) g (woven (now (numbers .exit)) (now (sets .exit))) k e) ⌝ }
 {
     let mut k = 0;
     let mut j = g;
@@ -97,19 +99,18 @@ pub fn gather(
                     if book::group_count(book, n, index) <= i {
                         return Gathered::Unclear;
                     }
-                    let number = i as u64 + 1;
+                    let number = (i + 1) as u16;
                     if layout::GROUP_LIMIT <= k {
                         return Gathered::Unclear;
                     }
-                    if seen(words, k, number) {
+                    if seen(numbers, k, number) {
                         return Gathered::Unclear;
                     }
                     match nodes_at(text, m, book, n, index) {
                         Met::Unknown => return Gathered::Unclear,
                         Met::Are(set, next) => {
-                            let at = 2 * k;
-                            words[at] = number;
-                            words[at + 1] = set;
+                            numbers[k] = number;
+                            sets[k] = set;
                             k += 1;
                             j = next;
                             begun = true;

@@ -44,7 +44,7 @@ fn is_right(table: &[u64], index: &[u64]) -> bool
     ensures { λ r. ⌜ r ≡ same (now (index .entry)) (index-of-table names-per-group (now (table .entry))) ⌝ }
 {
     if index.len() == INDEX_WORDS {
-        return is_index(table, index);
+        return is_index(&table[0..], &index[0..]);
     }
     false
 }

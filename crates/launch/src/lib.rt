@@ -18,12 +18,14 @@ ghost use Rattle.answers.specs.Answers.{answer-of};
 ghost use Rattle.answers.specs.declared.Value.the-variants.{Ok, Error};
 ghost use Rattle.answers.specs.declared.Reason.the-variants.{Done};
 ghost use Rattle.launch.specs.Launch.{launch};
-ghost use Rattle.launch.specs.Launches.{Open, In-order, Was-read, Begun, At-once};
+ghost use Rattle.launch.specs.Launches.{answered, placed, Open, In-order, Was-read, Begun, At-once};
 ghost use Prim.Native.Nat.{ℕ};
+ghost use lib.ListN.{length};
 ghost use Rattle.grammar.specs.File.{outcome, taken};
 ghost use Rattle.walk.specs.Groups.{groups, pass-groups};
 ghost use Rattle.walk.specs.declared.Step.the-variants as Step;
-ghost use Rattle.creating.specs.Creating.{narrow, created};
+ghost use Rattle.pairs.specs.Woven.{woven};
+ghost use Rattle.creating.specs.Creating.{created};
 ghost use Rattle.semantics.specs.Call.{opening};
 
 // What a launch answers: Ok or Error with its reason, and the place of the file at which it is refused.
@@ -31,9 +33,6 @@ pub struct Launched {
     pub answer: Answer,
     pub place: usize,
 }
-
-// Room for the plan: a number and a set for each s_group.
-const PLAN_WORDS: usize = 2 * GROUP_LIMIT;
 
 // A refusal at a place.
 fn refused_at(reason: Reason, place: usize) -> Launched
@@ -55,15 +54,30 @@ fn through() -> Launched
     }
 }
 
-// The table is opened, and the s_groups of the words are made.
-fn make(t: &mut [u64], n: u32, hidden: u64, words: &[u64]) -> Launched
+// What is found of a file: it is launched, or there is a reason against it, at a place.
+enum Verdict {
+    Through,
+    No(Reason, usize),
+}
+
+// What a launch answers then.
+fn told(verdict: Verdict) -> Launched
+    ensures { λ r. ⌜ (r .answer ≡ answered verdict) × (r .place ≡ placed verdict) ⌝ }
+{
+    match verdict {
+        Verdict::Through => through(),
+        Verdict::No(reason, place) => refused_at(reason, place),
+    }
+}
+
+// The table is opened, and the s_groups of these numbers and sets are made.
+fn make(t: &mut [u64], n: u32, hidden: u64, numbers: &[u16], sets: &[u64])
     requires { ⌜ Open n hidden (now t) ⌝ }
-    requires { ⌜ narrow (now words) ≡ true ⌝ }
-    ensures { λ r. ⌜ (r .answer ≡ answer-of Ok Done) × (r .place ≡ 0) × (now (t .exit) ≡ created (now (words .entry)) (opening n hidden (now (t .entry)) .table)) ⌝ }
+    requires { ⌜ length (now numbers) ≡ length (now sets) ⌝ }
+    ensures { λ _. ⌜ now (t .exit) ≡ created (woven (now (numbers .entry)) (now (sets .entry))) (opening n hidden (now (t .entry)) .table) ⌝ }
 {
     opening::open(t, n, hidden);
-    creating::create(t, words);
-    through()
+    creating::create(t, numbers, sets);
 }
 
 // The launch of a file that was read, on a run and a roster that are in order: it is a file whose groups stand at the place, or it is refused there.
@@ -76,27 +90,28 @@ fn judged(
     file: &[u8],
     whole: bool,
     place: usize,
-) -> Launched
+) -> Verdict
     requires { ⌜ In-order n hidden start (now t) ⌝ }
     requires { ⌜ Was-read (now file) whole place ⌝ }
-    ensures { λ r. ⌜ r .answer ≡ launch n hidden start (now (book .entry)) (now (file .entry)) (now (t .entry)) .answer ⌝ }
-    ensures { λ r. ⌜ r .place ≡ launch n hidden start (now (book .entry)) (now (file .entry)) (now (t .entry)) .place ⌝ }
+    ensures { λ r. ⌜ answered r ≡ launch n hidden start (now (book .entry)) (now (file .entry)) (now (t .entry)) .answer ⌝ }
+    ensures { λ r. ⌜ placed r ≡ launch n hidden start (now (book .entry)) (now (file .entry)) (now (t .entry)) .place ⌝ }
     ensures { λ _. ⌜ now (t .exit) ≡ launch n hidden start (now (book .entry)) (now (file .entry)) (now (t .entry)) .table ⌝ }
 {
     if !plain_book::fits(book, n) {
-        return refused_at(Reason::NoLaunchFile, 0);
+        return Verdict::No(Reason::NoLaunchFile, 0);
     }
     if !whole {
-        return refused_at(Reason::NoLaunchFile, place);
+        return Verdict::No(Reason::NoLaunchFile, place);
     }
-    let mut words = [0u64; PLAN_WORDS];
-    match plan::plan_of(file, place, book, n, start, &mut words) {
-        Plan::Clash => refused_at(Reason::GroupsDiffer, 0),
-        Plan::Unknown => refused_at(Reason::AtomUnknown, 0),
-        Plan::TooMany => refused_at(Reason::GroupsFull, 0),
+    let mut numbers = [0u16; GROUP_LIMIT];
+    let mut sets = [0u64; GROUP_LIMIT];
+    match plan::plan_of(file, place, book, n, start, &mut numbers, &mut sets) {
+        Plan::Clash => Verdict::No(Reason::GroupsDiffer, 0),
+        Plan::Unknown => Verdict::No(Reason::AtomUnknown, 0),
+        Plan::TooMany => Verdict::No(Reason::GroupsFull, 0),
         Plan::Fits(count) => {
-            let used = 2 * count;
-            make(t, n, hidden, &words[..used])
+            make(t, n, hidden, &numbers[..count], &sets[..count]);
+            Verdict::Through
         }
     }
 }
@@ -130,15 +145,15 @@ fn at_once(
     if !book::fit(book, n, &mut index) {
         return false;
     }
-    let mut words = [0u64; PLAN_WORDS];
-    match gathering::gather(file, g, book, n, &index, &mut words) {
+    let mut numbers = [0u16; GROUP_LIMIT];
+    let mut sets = [0u64; GROUP_LIMIT];
+    match gathering::gather(file, g, book, n, &index, &mut numbers, &mut sets) {
         Gathered::Unclear => false,
         Gathered::Made(count, end) => {
             if !ended(file, end, whole) {
                 return false;
             }
-            let used = 2 * count;
-            make(t, n, hidden, &words[..used]);
+            make(t, n, hidden, &numbers[..count], &sets[..count]);
             true
         }
     }
@@ -168,18 +183,18 @@ pub fn launch(t: &mut [u64], n: u32, hidden: u64, start: u32, book: &[u8], file:
     }
     // The functions that have arrays are called at more than one place, so that the compiler keeps the arrays out of the frame on which reading stands.
     match reader::front_of(file) {
-        Step::Stop(p) => judged(t, n, hidden, start, book, file, false, p),
+        Step::Stop(p) => told(judged(t, n, hidden, start, book, file, false, p)),
         Step::Past(g) => {
             if at_once(t, n, hidden, book, file, g, false) {
                 return through();
             }
             match reader::rest_of(file, g) {
-                Reading::Refused(p) => judged(t, n, hidden, start, book, file, false, p),
+                Reading::Refused(p) => told(judged(t, n, hidden, start, book, file, false, p)),
                 Reading::Whole(_) => {
                     if at_once(t, n, hidden, book, file, g, true) {
                         return through();
                     }
-                    judged(t, n, hidden, start, book, file, true, g)
+                    told(judged(t, n, hidden, start, book, file, true, g))
                 }
             }
         }

@@ -14,9 +14,6 @@ use free_test::all_zero;
 // So many words are turned at a time: as many as stay in registers.
 const UNIT: usize = 16;
 
-// So many units there are.
-const UNITS: usize = NODE_WORDS / UNIT;
-
 // From so many nodes on it is quicker to turn all the words than to compare pair by pair.
 const TURNED_FROM: u32 = 16;
 
@@ -109,21 +106,21 @@ fn exchange(rows: &mut [u64; UNIT], j: usize, mask: u64)
     }
 }
 
-// Turns the 16 rows from start on, each 16 columns by themselves, and writes them to the same place.
-fn turn_unit(links: &[u64], start: usize, turned: &mut [u64; NODE_WORDS])
-    requires { ⌜ (length (now links) ≡ node-limit) × (length (now turned) ≡ node-limit) × (start + unit-rows ≤ node-limit) ⌝ }
-    ensures { λ r. ⌜ UnitTurned start (now (links .entry)) (now (turned .entry)) (now (turned .exit)) ⌝ }
+// Turns 16 rows, each 16 columns by themselves.
+fn turn_unit(links: &[u64], turned: &mut [u64])
+    requires { ⌜ (length (now links) ≡ unit-rows) × (length (now turned) ≡ unit-rows) ⌝ }
+    ensures { λ r. ⌜ UnitTurned (now (links .entry)) (now (turned .exit)) ⌝ }
 {
     let mut rows = [0u64; UNIT];
     for k in 0..UNIT {
-        rows[k] = links[start + k];
+        rows[k] = links[k];
     }
     exchange(&mut rows, 8, EIGHTS);
     exchange(&mut rows, 4, FOURS);
     exchange(&mut rows, 2, PAIRS);
     exchange(&mut rows, 1, EVENS);
     for k in 0..UNIT {
-        turned[start + k] = rows[k];
+        turned[k] = rows[k];
     }
 }
 
@@ -143,15 +140,20 @@ fn off_by_units(links: &[u64], turned: &[u64], k: usize) -> u64
     low | high
 }
 
-// Whether the connections between all 64 nodes are mutual: turned about the diagonal, the words are the same.
+// Whether the connections between all 64 nodes are mutual: turned about the diagonal, the words are the same. A unit is turned at each of four places, so that the
+// compiler keeps what turning needs of the stack out of the frame in which the names are tested.
 fn turned_mutual(links: &[u64]) -> bool
     requires { ⌜ length (now links) ≡ node-limit ⌝ }
     ensures { λ r. ⌜ r ≡ own-mutual (now (links .entry)) node-limit ⌝ }
 {
     let mut turned = [0u64; NODE_WORDS];
-    for u in 0..UNITS {
-        turn_unit(links, UNIT * u, &mut turned);
-    }
+    turn_unit(&links[0..UNIT], &mut turned[0..UNIT]);
+    turn_unit(&links[UNIT..2 * UNIT], &mut turned[UNIT..2 * UNIT]);
+    turn_unit(&links[2 * UNIT..3 * UNIT], &mut turned[2 * UNIT..3 * UNIT]);
+    turn_unit(
+        &links[3 * UNIT..NODE_WORDS],
+        &mut turned[3 * UNIT..NODE_WORDS],
+    );
     let mut off: u64 = 0;
     for k in 0..UNIT {
         off = off | off_by_units(links, &turned, k);

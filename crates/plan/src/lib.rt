@@ -5,6 +5,7 @@ ghost use mathlib.Core.Path.{_≡_};
 ghost use mathlib.Core.Bool.{true};
 ghost use Prim.Native.Nat.{ℕ, _*_};
 ghost use lib.ListN.{length, take};
+ghost use Rattle.pairs.specs.Woven.{woven};
 ghost use Rattle.semantics.specs.Sizes.{group-limit};
 ghost use Rattle.walk.specs.Groups.{nodes, groups};
 ghost use Rattle.book.specs.Book.{fit, node-atoms};
@@ -78,25 +79,23 @@ fn enter(text: &[u8], name: &[u8], at: usize, book: &[u8], n: u32) -> Entered
     }
 }
 
-// The two words of the group k are written, where there is room for them.
-fn put(words: &mut [u64], k: usize, number: u64, set: u64)
-    requires { ⌜ length (now words) ≡ 2 * group-limit ⌝ }
-    ensures { λ r. ⌜ now (words .exit) ≡ put (now (words .entry)) k number set ⌝ }
+// Number and set of the group k are written, where there is room for them.
+fn put(numbers: &mut [u16], sets: &mut [u64], k: usize, number: u16, set: u64)
+    requires { ⌜ (length (now numbers) ≡ group-limit) × (length (now sets) ≡ group-limit) ⌝ }
+    ensures { λ _. ⌜ woven (now (numbers .exit)) (now (sets .exit)) ≡ put (woven (now (numbers .entry)) (now (sets .entry))) k number set ⌝ }
 {
     if k < layout::GROUP_LIMIT {
-        let at = 2 * k;
-        words[at] = number;
-        let next = at + 1;
-        words[next] = set;
+        numbers[k] = number;
+        sets[k] = set;
     }
 }
 
 // The plan where no node clashes.
-fn fitted(text: &[u8], g: usize, book: &[u8], n: u32, words: &mut [u64]) -> Plan
+fn fitted(text: &[u8], g: usize, book: &[u8], n: u32, numbers: &mut [u16], sets: &mut [u64]) -> Plan
     requires { ⌜ fit n (now book) ≡ true ⌝ }
-    requires { ⌜ length (now words) ≡ 2 * group-limit ⌝ }
+    requires { ⌜ (length (now numbers) ≡ group-limit) × (length (now sets) ≡ group-limit) ⌝ }
     ensures { λ r. ⌜ r ≡ fitting n (now (book .entry)) (kept (groups (now (text .entry)) g)) ⌝ }
-    ensures { λ r. ⌜ ((k : ℕ) → r ≡ Plan.Fits k → take (2 * k) (now (words .exit)) ≡ plan-words n (now (book .entry)) (kept (groups (now (text .entry)) g))) ⌝ }
+    ensures { λ r. ⌜ ((k : ℕ) → r ≡ Plan.Fits k → take (2 * k) (woven (now (numbers .exit)) (now (sets .exit))) ≡ plan-words n (now (book .entry)) (kept (groups (now (text .entry)) g))) ⌝ }
 {
     let mut count = 0;
     let mut k = 0;
@@ -108,7 +107,7 @@ fn fitted(text: &[u8], g: usize, book: &[u8], n: u32, words: &mut [u64]) -> Plan
                 if duplicates::made(text, g, count, &text[s..e], m) {
                     match enter(text, &text[s..e], m, book, n) {
                         Entered::Group(number, set) => {
-                            put(words, k, number, set);
+                            put(numbers, sets, k, number as u16, set);
                             k += 1;
                         }
                         Entered::Unknown => return Plan::Unknown,
@@ -129,15 +128,23 @@ fn fitted(text: &[u8], g: usize, book: &[u8], n: u32, words: &mut [u64]) -> Plan
 }
 
 // What is to be made of the groups of the list whose bracket stands in front of g, by a book for n nodes, from the starting node on. Where they fit, the first
-// words have a number and a set for each.
-pub fn plan_of(text: &[u8], g: usize, book: &[u8], n: u32, start: u32, words: &mut [u64]) -> Plan
+// numbers and sets are theirs.
+pub fn plan_of(
+    text: &[u8],
+    g: usize,
+    book: &[u8],
+    n: u32,
+    start: u32,
+    numbers: &mut [u16],
+    sets: &mut [u64],
+) -> Plan
     requires { ⌜ fit n (now book) ≡ true ⌝ }
-    requires { ⌜ length (now words) ≡ 2 * group-limit ⌝ }
+    requires { ⌜ (length (now numbers) ≡ group-limit) × (length (now sets) ≡ group-limit) ⌝ }
     ensures { λ r. ⌜ r ≡ verdict n (now (book .entry)) start (groups (now (text .entry)) g) ⌝ }
-    ensures { λ r. ⌜ ((k : ℕ) → r ≡ Plan.Fits k → take (2 * k) (now (words .exit)) ≡ plan-words n (now (book .entry)) (kept (groups (now (text .entry)) g))) ⌝ }
+    ensures { λ r. ⌜ ((k : ℕ) → r ≡ Plan.Fits k → take (2 * k) (woven (now (numbers .exit)) (now (sets .exit))) ≡ plan-words n (now (book .entry)) (kept (groups (now (text .entry)) g))) ⌝ }
 {
     if duplicates::clashes(text, g, book::line(book, start as usize)) {
         return Plan::Clash;
     }
-    fitted(text, g, book, n, words)
+    fitted(text, g, book, n, numbers, sets)
 }

@@ -109,5 +109,5 @@ fn sound_for(t: &[u64], cap: usize) -> bool
 pub fn is_sound(t: &[u64]) -> bool
     ensures { λ r. ⌜ r ≡ sound names-per-group (now (t .entry)) ⌝ }
 {
-    sound_for(t, NAMES_PER_GROUP)
+    sound_for(&t[0..], NAMES_PER_GROUP)
 }

@@ -4,7 +4,7 @@ ghost use Prim.Native.Nat.{_≤_, _<_};
 ghost use lib.ListN.{length};
 ghost use Rattle.tokens.specs.Tokens.{token-at};
 ghost use Rattle.grammar.specs.File.{list, tuple};
-ghost use Rattle.values.specs.Skipping.{skip-of, skip-of-number, Next-item, To-bracket, Emptied, Passed-over};
+ghost use Rattle.values.specs.Skipping.{skip-of, stops-at, skip-of-number, Next-item, To-bracket, Emptied, Passed-over};
 ghost use Rattle.values.specs.declared.Skip.the-variants as Skip;
 use tokens::Token;
 
@@ -17,25 +17,28 @@ pub enum Skip {
 // Lists and tuples nest so deep.
 const DEPTH: usize = 16;
 
-// The number for a stop at a place. Skippers answer a number: a place within the text is the place behind what is skipped, and a
-// number beyond the text stands for a stop. A number comes back in a register; the room for an enum would stand in the frame of each
-// bracket that is open, and more than double it.
-fn stop(text: &[u8], at: usize) -> usize
-    requires { ⌜ at ≤ length (now text) ⌝ }
-    ensures { λ r. ⌜ skip-of-number (now (text .entry)) r ≡ Skip.Stop at ⌝ }
+// Skippers answer a number: one below this is the place behind what is skipped, and this with a place on top of it stands for a stop there. No text is so long.
+// A number comes back in a register, and nothing but a constant tells the two apart: an enum, or the length of the text, would stand in the frame of each bracket
+// that is open.
+const STOP: usize = 9223372036854775808;
+
+// The number for a stop at a place.
+fn stop(at: usize) -> usize
+    requires { ⌜ at < stops-at ⌝ }
+    ensures { λ r. ⌜ skip-of-number r ≡ Skip.Stop at ⌝ }
 {
-    text.len() + 1 + at
+    STOP + at
 }
 
 // Skips the atom or the number at a place.
 fn plain(text: &[u8], at: usize) -> usize
     requires { ⌜ at < length (now text) ⌝ }
-    ensures { λ r. ⌜ skip-of-number (now (text .entry)) r ≡ skip-of (token-at (now (text .entry)) at) ⌝ }
+    ensures { λ r. ⌜ skip-of-number r ≡ skip-of (token-at (now (text .entry)) at) ⌝ }
 {
     match tokens::token_at(text, at) {
         Token::Atom(_, _, n) => n,
         Token::Number(n) => n,
-        Token::Neither(p) => stop(text, p),
+        Token::Neither(p) => stop(p),
     }
 }
 
@@ -43,11 +46,11 @@ fn plain(text: &[u8], at: usize) -> usize
 // but the first, which follows where the bracket is opened.
 fn next_item(text: &[u8], at: usize, close: u8, opened: bool) -> usize
     requires { ⌜ at ≤ length (now text) ⌝ }
-    ensures { λ r. ⌜ Next-item close (now (text .entry)) at opened (skip-of-number (now (text .entry)) r) ⌝ }
+    ensures { λ r. ⌜ Next-item close (now (text .entry)) at opened (skip-of-number r) ⌝ }
 {
     let i = tokens::past_white(text, at);
     if text.len() <= i {
-        return stop(text, i);
+        return stop(i);
     }
     if opened {
         return i;
@@ -57,15 +60,15 @@ fn next_item(text: &[u8], at: usize, close: u8, opened: bool) -> usize
         return i;
     }
     if b != b',' {
-        return stop(text, i);
+        return stop(i);
     }
     let past = i + 1;
     let n = tokens::past_white(text, past);
     if text.len() <= n {
-        return stop(text, n);
+        return stop(n);
     }
     if text[n] == close {
-        return stop(text, n);
+        return stop(n);
     }
     n
 }
@@ -73,13 +76,13 @@ fn next_item(text: &[u8], at: usize, close: u8, opened: bool) -> usize
 // Skips the items that are no brackets, and the first bracket, which closes or opens.
 fn flat(text: &[u8], at: usize, close: u8, opened: bool) -> usize
     requires { ⌜ at ≤ length (now text) ⌝ }
-    ensures { λ r. ⌜ To-bracket close (now (text .entry)) at opened (skip-of-number (now (text .entry)) r) ⌝ }
+    ensures { λ r. ⌜ To-bracket close (now (text .entry)) at opened (skip-of-number r) ⌝ }
 {
     let mut j = at;
     let mut first = opened;
     loop {
         let i = next_item(text, j, close, first);
-        if text.len() < i {
+        if STOP <= i {
             return i;
         }
         let b = text[i];
@@ -94,7 +97,7 @@ fn flat(text: &[u8], at: usize, close: u8, opened: bool) -> usize
             return past;
         }
         let n = plain(text, i);
-        if text.len() < n {
+        if STOP <= n {
             return n;
         }
         j = n;
@@ -106,13 +109,13 @@ fn flat(text: &[u8], at: usize, close: u8, opened: bool) -> usize
 // so the skippers of both call each other, with the depth that is left falling.
 fn skip_list(text: &[u8], at: usize, depth: usize) -> usize
     requires { ⌜ at ≤ length (now text) ⌝ }
-    ensures { λ r. ⌜ Emptied list (now (text .entry)) at depth (skip-of-number (now (text .entry)) r) ⌝ }
+    ensures { λ r. ⌜ Emptied list (now (text .entry)) at depth (skip-of-number r) ⌝ }
 {
     let mut j = at;
     let mut opened = true;
     loop {
         let n = flat(text, j, b']', opened);
-        if text.len() < n {
+        if STOP <= n {
             return n;
         }
         let i = n - 1;
@@ -121,14 +124,14 @@ fn skip_list(text: &[u8], at: usize, depth: usize) -> usize
             return n;
         }
         if depth == 0 {
-            return stop(text, i);
+            return stop(i);
         }
         let e = if b == b'[' {
             skip_list(text, n, depth - 1)
         } else {
             skip_tuple(text, n, depth - 1)
         };
-        if text.len() < e {
+        if STOP <= e {
             return e;
         }
         j = e;
@@ -139,13 +142,13 @@ fn skip_list(text: &[u8], at: usize, depth: usize) -> usize
 // The same of a tuple.
 fn skip_tuple(text: &[u8], at: usize, depth: usize) -> usize
     requires { ⌜ at ≤ length (now text) ⌝ }
-    ensures { λ r. ⌜ Emptied tuple (now (text .entry)) at depth (skip-of-number (now (text .entry)) r) ⌝ }
+    ensures { λ r. ⌜ Emptied tuple (now (text .entry)) at depth (skip-of-number r) ⌝ }
 {
     let mut j = at;
     let mut opened = true;
     loop {
         let n = flat(text, j, b'}', opened);
-        if text.len() < n {
+        if STOP <= n {
             return n;
         }
         let i = n - 1;
@@ -154,14 +157,14 @@ fn skip_tuple(text: &[u8], at: usize, depth: usize) -> usize
             return n;
         }
         if depth == 0 {
-            return stop(text, i);
+            return stop(i);
         }
         let e = if b == b'[' {
             skip_list(text, n, depth - 1)
         } else {
             skip_tuple(text, n, depth - 1)
         };
-        if text.len() < e {
+        if STOP <= e {
             return e;
         }
         j = e;
@@ -185,9 +188,8 @@ pub fn skip_value(text: &[u8], at: usize) -> Skip
     } else {
         plain(text, i)
     };
-    if text.len() < r {
-        let p = r - text.len() - 1;
-        return Skip::Stop(p);
+    if STOP <= r {
+        return Skip::Stop(r - STOP);
     }
     Skip::Behind(r)
 }

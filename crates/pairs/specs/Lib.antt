@@ -1,0 +1,2 @@
+-- `Woven` is the definition, and its laws. Assumes nothing.
+pub mod Woven

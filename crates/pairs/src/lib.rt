@@ -1,0 +1,1 @@
+// Two runs read as one list, a word of each by turns: see specs/.

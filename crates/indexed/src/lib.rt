@@ -37,7 +37,7 @@ fn table_reason(table: &[u64]) -> Reason
 }
 
 // Whether the run is the index of the table, which is sound. It is called from two places, so that what it keeps on the stack is not there while the table
-// is tested.
+// is tested; and it hands on parts that are the whole, since slices that are handed on as they are would stay in its callers' frames.
 fn is_right(table: &[u64], index: &[u64]) -> bool
     requires { ⌜ length (now table) ≡ table-words names-per-group ⌝ }
     requires { ⌜ sound names-per-group (now table) ≡ true ⌝ }

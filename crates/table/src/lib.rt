@@ -105,7 +105,7 @@ fn sound_for(t: &[u64], cap: usize) -> bool
     false
 }
 
-// Whether the run is a sound table.
+// Whether the run is a sound table. A part that is the whole run is handed on: a slice that is handed on as it is stays in the frame of each caller.
 pub fn is_sound(t: &[u64]) -> bool
     ensures { λ r. ⌜ r ≡ sound names-per-group (now (t .entry)) ⌝ }
 {

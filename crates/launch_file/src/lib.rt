@@ -73,12 +73,12 @@ fn pair_at(text: &[u8], at: usize, own: &[u8], found: bool) -> Pair
     }
 }
 
-// What stands at a place of a list of pairs, behind its bracket or, once it has begun, behind a pair.
+// What stands at a place of a list of pairs, behind its bracket or, once it has begun, behind a pair. Parts that are the whole are handed on: see `tokens::token_at`.
 fn next_pair(text: &[u8], at: usize, begun: bool, own: &[u8], found: bool) -> Pair
     ensures { λ r. ⌜ Pair-read (list-of (now (own .entry)) found) (cond begun next-pair first-pair) (now (text .entry)) at found r ⌝ }
 {
-    match entry_at(text, at, begun) {
-        Entry::Group(n) => pair_at(text, n, own, found),
+    match entry_at(&text[0..], at, begun) {
+        Entry::Group(n) => pair_at(&text[0..], n, &own[0..], found),
         Entry::Stop(p) => Pair::Stop(p),
         Entry::Closed(n) => {
             let bracket = n - 1;

@@ -13,7 +13,7 @@ use Rattle.tokens.specs.Within.{run-within, run-stops}
 use Rattle.tokens.specs.declared.Class.the-variants.{White}
 use Rattle.grammar.specs.File.{Here, comma, open-list, open-tuple, ascii, Bracket, list, tuple, closing, value, first, after}
 use Rattle.grammar.specs.Steps.{from, from-end}
-use Rattle.values.specs.Skipping.{beyond, resumed, skip-of-number, skip-of, phase-of, Next-item, bracket-of, To-bracket}
+use Rattle.values.specs.Skipping.{beyond, resumed, stops-at, skip-of-number, skip-of, phase-of, Next-item, bracket-of, To-bracket}
 use Rattle.values.specs.Plain.{plain-goes-on, plain-beyond}
 use Rattle.values.specs.Brackets.{opening-of, white-value, white-first, white-after, opening, no-value, closed, another, no-separator, begun-with}
 use Rattle.values.specs.declared.Skip.{Skip}
@@ -21,30 +21,30 @@ use Rattle.values.specs.declared.Skip.the-variants.{Behind, Stop}
 
 -- ---- answers as numbers
 
--- a place within the text
-pub number-behind : (t : List ℕ) (r : ℕ) → r ≤ length t → skip-of-number t r ≡ Behind r
+-- a place behind what is skipped
+pub number-behind : (r : ℕ) → r < stops-at → skip-of-number r ≡ Behind r
 unfolding skip-of-number
-number-behind t r l = rw (le-ltb (length t) r l)
+number-behind r l = rw (lt-ltb r stops-at l)
 
--- a number beyond the text
-pub number-stops : (t : List ℕ) (r : ℕ) → length t < r → skip-of-number t r ≡ Stop (r - length t - 1)
+-- a number that stands for a stop
+pub number-stops : (r : ℕ) → stops-at ≤ r → skip-of-number r ≡ Stop (r - stops-at)
 unfolding skip-of-number
-number-stops t r l = rw (lt-ltb (length t) r l)
+number-stops r l = rw (le-ltb r stops-at l)
 
 -- the number for a stop at a place
-pub number-of-stop : (t : List ℕ) (p : ℕ) → skip-of-number t (length t + 1 + p) ≡ Stop p
-number-of-stop t p = number-stops t (length t + 1 + p) (omega arith) ∙ ap Stop (omega arith)
+pub number-of-stop : (p : ℕ) → skip-of-number (stops-at + p) ≡ Stop p
+number-of-stop p = number-stops (stops-at + p) (omega arith) ∙ ap Stop (omega arith)
 
 -- ---- an atom or a number
 
-module _ (t : List ℕ) (at : ℕ) (l : at < length t) where
+module _ (t : List ℕ) (short : length t < stops-at) (at : ℕ) (l : at < length t) where
   -- it ends at n
-  pub plain-behind : (n : ℕ) → skip-of (token-at t at) ≡ Behind n → skip-of-number t n ≡ skip-of (token-at t at)
-  plain-behind n e = let g = rw e at (plain-beyond t at l) in number-behind t n (g .1) ∙ sym e
+  pub plain-behind : (n : ℕ) → skip-of (token-at t at) ≡ Behind n → skip-of-number n ≡ skip-of (token-at t at)
+  plain-behind n e = let g = rw e at (plain-beyond t at l) in number-behind n (omega (arith, g .1)) ∙ sym e
 
-  -- where there is neither, the text is refused within itself
-  pub plain-stops : (p : ℕ) → skip-of (token-at t at) ≡ Stop p → p ≤ length t
-  plain-stops p e = let g = rw e at (plain-beyond t at l) in g .1
+  -- where there is neither, a number stands for the stop
+  pub plain-stops : (p : ℕ) → skip-of (token-at t at) ≡ Stop p → p < stops-at
+  plain-stops p e = let g = rw e at (plain-beyond t at l) in omega (arith, g .1)
 
 -- ---- the next item
 
@@ -70,17 +70,17 @@ module _ (t : List ℕ) (at i : ℕ) (here : i ≡ behind White t at) where
 
     module _ (l : i < length t) where
       -- no item stands before
-      pub next-first : opened ≡ true → Next-item c t at opened (skip-of-number t i)
-      next-first f =
-          rw (f, number-behind t i (omega arith))
+      pub next-first : length t < stops-at → opened ≡ true → Next-item c t at opened (skip-of-number i)
+      next-first short f =
+          rw (f, number-behind i (omega arith))
           (record { goes-on = λ k q h due. arrive true h (k ∷ due) ∙ begun-with t i l (dark l) h k due; ahead = (omega arith, l, dark l) })
 
       -- an item stands before
       module _ (f : opened ≡ false) where
         -- the closing bracket stands there
-        pub next-closed : getD t i 0 ≡ c → Next-item c t at opened (skip-of-number t i)
-        next-closed e =
-            rw (f, number-behind t i (omega arith))
+        pub next-closed : length t < stops-at → getD t i 0 ≡ c → Next-item c t at opened (skip-of-number i)
+        next-closed short e =
+            rw (f, number-behind i (omega arith))
             (record {
               goes-on = λ k q h due. arrive false h (k ∷ due) ∙ closed t i l (dark l) h k due (e ∙ q) ∙ rw (eq-eqb (getD t i 0) (closing k) (e ∙ q));
               ahead = (omega arith, l, dark l);
@@ -115,9 +115,9 @@ module _ (t : List ℕ) (at i : ℕ) (here : i ≡ behind White t at) where
               next-closes z = record { goes-on = λ k q h due. come k q h due ∙ no-value t m r lit h k (k ∷ due) (z ∙ q); ahead = (omega arith, omega arith) }
 
               -- an item begins there
-              pub next-more : (getD t m 0 ≡ c → ⊥) → Next-item c t at opened (skip-of-number t m)
-              next-more z =
-                  rw (number-behind t m (omega arith))
+              pub next-more : length t < stops-at → (getD t m 0 ≡ c → ⊥) → Next-item c t at opened (skip-of-number m)
+              next-more short z =
+                  rw (number-behind m (omega arith))
                   (record {
                     goes-on = λ k q h due. come k q h due ∙ rw (ne-eqb (getD t m 0) (closing k) (λ x. z (x ∙ sym q)));
                     ahead = (omega arith, r, lit);
@@ -140,19 +140,19 @@ pub record Along (c : ℕ) (t : List ℕ) (at : ℕ) (opened : Bool) (j : ℕ) (
 pub along-none : (c : ℕ) (t : List ℕ) (at : ℕ) (opened : Bool) → at ≤ length t → Along c t at opened at opened
 along-none c t at opened l = record { goes-on = λ k q h due. refl; ahead = le-refl at; within = l }
 
-module _ (c : ℕ) (t : List ℕ) (at : ℕ) (opened : Bool) (j : ℕ) (fresh : Bool) (A : Along c t at opened j fresh) (i : ℕ) (N : Next-item c t j fresh (skip-of-number t i)) where
+module _ (c : ℕ) (t : List ℕ) (at : ℕ) (opened : Bool) (j : ℕ) (fresh : Bool) (A : Along c t at opened j fresh) (i : ℕ) (N : Next-item c t j fresh (skip-of-number i)) where
   -- nothing that may stand there follows
-  pub along-stops : length t < i → To-bracket c t at opened (skip-of-number t i)
+  pub along-stops : stops-at ≤ i → To-bracket c t at opened (skip-of-number i)
   along-stops l =
-      let M = rw (number-stops t i l) at N in
-      rw (number-stops t i l)
+      let M = rw (number-stops i l) at N in
+      rw (number-stops i l)
       (record { goes-on = λ k q h due. A .goes-on k q h due ∙ M .goes-on k q h due; ahead = (omega (arith, A .ahead, M .ahead .0), M .ahead .1) })
 
   -- i is the place of what follows
-  module _ (l : i ≤ length t) where
+  module _ (l : i < stops-at) where
     -- it is the closing bracket, or an item
     follows : Next-item c t j fresh (Behind i)
-    follows = rw (number-behind t i l) at N
+    follows = rw (number-behind i l) at N
 
     -- a byte stands there
     pub along-inside : i < length t
@@ -163,10 +163,10 @@ module _ (c : ℕ) (t : List ℕ) (at : ℕ) (opened : Bool) (j : ℕ) (fresh : 
     ahead-by-one = (omega (arith, A .ahead, follows .ahead .0), omega (arith, along-inside))
 
     -- it is the closing bracket
-    pub along-closed : getD t i 0 ≡ c → To-bracket c t at opened (skip-of-number t (i + 1))
-    along-closed e =
+    pub along-closed : length t < stops-at → getD t i 0 ≡ c → To-bracket c t at opened (skip-of-number (i + 1))
+    along-closed short e =
         let s : i + 1 - 1 ≡ i = omega arith in
-        rw (number-behind t (i + 1) (ahead-by-one .1))
+        rw (number-behind (i + 1) (omega (arith, along-inside)))
         (record {
           goes-on = λ k q h due. A .goes-on k q h due ∙ follows .goes-on k q h due ∙ rw (s, eq-eqb (getD t i 0) (closing k) (e ∙ q));
           ahead = ahead-by-one;
@@ -178,10 +178,10 @@ module _ (c : ℕ) (t : List ℕ) (at : ℕ) (opened : Bool) (j : ℕ) (fresh : 
       begins-there k q h due = A .goes-on k q h due ∙ follows .goes-on k q h due ∙ rw (ne-eqb (getD t i 0) (closing k) (λ z. n (z ∙ sym q)))
 
       -- it is a bracket that opens
-      pub along-opens : (o : Bracket) → getD t i 0 ≡ opening-of o → To-bracket c t at opened (skip-of-number t (i + 1))
-      along-opens o e =
+      pub along-opens : length t < stops-at → (o : Bracket) → getD t i 0 ≡ opening-of o → To-bracket c t at opened (skip-of-number (i + 1))
+      along-opens short o e =
           let s : i + 1 - 1 ≡ i = omega arith in
-          rw (number-behind t (i + 1) (ahead-by-one .1))
+          rw (number-behind (i + 1) (omega (arith, along-inside)))
           (record {
             goes-on = λ k q h due.
                 begins-there k q h due ∙ opening t i along-inside (follows .ahead .2) h o (k ∷ due) e
@@ -190,28 +190,28 @@ module _ (c : ℕ) (t : List ℕ) (at : ℕ) (opened : Bool) (j : ℕ) (fresh : 
           })
 
       -- it is an atom or a number
-      module _ (a : getD t i 0 ≡ ascii open-list → ⊥) (b : getD t i 0 ≡ ascii open-tuple → ⊥) (r : ℕ) (S : skip-of-number t r ≡ skip-of (token-at t i)) where
+      module _ (a : getD t i 0 ≡ ascii open-list → ⊥) (b : getD t i 0 ≡ ascii open-tuple → ⊥) (r : ℕ) (S : skip-of-number r ≡ skip-of (token-at t i)) where
         -- the text goes on behind it
-        skips : (s : Skip) → skip-of-number t r ≡ s → (k : Bracket) → c ≡ closing k → (h : Here) (due : List Bracket) → from h (k ∷ due) (phase-of opened) t at ≡ resumed h (k ∷ due) t s
+        skips : (s : Skip) → skip-of-number r ≡ s → (k : Bracket) → c ≡ closing k → (h : Here) (due : List Bracket) → from h (k ∷ due) (phase-of opened) t at ≡ resumed h (k ∷ due) t s
         skips s d k q h due =
             begins-there k q h due
             ∙ plain-goes-on h (k ∷ due) t i along-inside (follows .ahead .2) a b
             ∙ ap (resumed h (k ∷ due) t) (sym S ∙ d)
 
         -- that is further on
-        passes : (s : Skip) → skip-of-number t r ≡ s → beyond i t s
+        passes : (s : Skip) → skip-of-number r ≡ s → beyond i t s
         passes s d = rw (sym d ∙ S) (plain-beyond t i along-inside)
 
         -- there is neither
-        pub along-refused : length t < r → To-bracket c t at opened (skip-of-number t r)
+        pub along-refused : stops-at ≤ r → To-bracket c t at opened (skip-of-number r)
         along-refused z =
-            let g = passes _ (number-stops t r z) in
-            rw (number-stops t r z) (record { goes-on = skips _ (number-stops t r z); ahead = (omega (arith, A .ahead, follows .ahead .0, g .0), g .1) })
+            let g = passes _ (number-stops r z) in
+            rw (number-stops r z) (record { goes-on = skips _ (number-stops r z); ahead = (omega (arith, A .ahead, follows .ahead .0, g .0), g .1) })
 
         -- it ends at r, and what follows it is still to come
-        pub along-more : r ≤ length t → Along c t at opened r false
-        along-more z = let g = passes _ (number-behind t r z) in record { goes-on = skips _ (number-behind t r z); ahead = omega (arith, A .ahead, follows .ahead .0, g .0); within = z }
+        pub along-more : r < stops-at → Along c t at opened r false
+        along-more z = let g = passes _ (number-behind r z) in record { goes-on = skips _ (number-behind r z); ahead = omega (arith, A .ahead, follows .ahead .0, g .0); within = g .1 }
 
         -- r is further on
-        pub along-falls : r ≤ length t → length t - r < length t - j
-        along-falls z = let g = passes _ (number-behind t r z) in omega (arith, follows .ahead .0, g .0)
+        pub along-falls : r < stops-at → length t - r < length t - j
+        along-falls z = let g = passes _ (number-behind r z) in omega (arith, follows .ahead .0, g .0, g .1)

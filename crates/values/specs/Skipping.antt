@@ -18,11 +18,20 @@ abbrev pub reached : Skip → ℕ
 reached (Behind e) = e
 reached (Stop p) = p
 
+-- what is reached stands further on, within the text
+abbrev pub beyond : ℕ → List ℕ → Skip → Type 0
+beyond at t (Behind e) = (at < e) × (e ≤ length t)
+beyond at t (Stop p) = (at ≤ p) × (p ≤ length t)
+
 -- ---- answers as numbers
 
--- a place within the text is the place behind what is skipped, and a number beyond the text stands for a stop
-unfoldable pub skip-of-number : List ℕ → ℕ → Skip
-skip-of-number t r = cond (ltb (length t) r) (Stop (r - length t - 1)) (Behind r)
+-- from this number on a number stands for a stop: no text is so long
+abbrev pub stops-at : ℕ
+stops-at = 9223372036854775808
+
+-- a number below it is the place behind what is skipped, and with a place on top of it, it stands for a stop there
+unfoldable pub skip-of-number : ℕ → Skip
+skip-of-number r = cond (ltb r stops-at) (Behind r) (Stop (r - stops-at))
 
 -- an atom or a number is skipped
 abbrev pub skip-of : Token → Skip
@@ -53,7 +62,7 @@ resumed h due t (Stop p) = refused p
 -- the bracket, the text goes on there
 pub record Emptied (k : Bracket) (t : List ℕ) (at depth : ℕ) (r : Skip) : Type 0 where
   pub goes-on : (h : Here) (due : List Bracket) → suc (length due) + depth ≡ depth-limit → from h (k ∷ due) first t at ≡ resumed h due t r
-  pub ahead : at ≤ reached r
+  pub ahead : beyond at t r
 
 -- ---- items between brackets
 
@@ -89,11 +98,6 @@ entered h k due t e = cond (ltb (length due) depth-limit) (from h (k ∷ due) fi
 abbrev pub turned : Here → Bracket → List Bracket → List ℕ → Skip → Outcome
 turned h k due t (Behind e) = cond (eqb (getD t (e - 1) 0) (closing k)) (from h due after t e) (entered h (bracket-of (getD t (e - 1) 0)) (k ∷ due) t e)
 turned h k due t (Stop p) = refused p
-
--- what is reached stands further on, within the text
-abbrev pub beyond : ℕ → List ℕ → Skip → Type 0
-beyond at t (Behind e) = (at < e) × (e ≤ length t)
-beyond at t (Stop p) = (at ≤ p) × (p ≤ length t)
 
 -- between the brackets that c closes, behind the opening one or behind an item: the place behind the first bracket
 pub record To-bracket (c : ℕ) (t : List ℕ) (at : ℕ) (opened : Bool) (r : Skip) : Type 0 where

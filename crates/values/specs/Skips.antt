@@ -11,12 +11,24 @@ use Rattle.tokens.specs.Tokens.{behind, token-at}
 use Rattle.tokens.specs.declared.Class.the-variants.{White}
 use Rattle.grammar.specs.File.{depth-limit, Here, open-list, open-tuple, ascii, Bracket, list, tuple, closing, value, first}
 use Rattle.grammar.specs.Steps.{from, from-end, from-pair}
-use Rattle.values.specs.Skipping.{over, reached, beyond, resumed, skip-of-number, skip-of, Passed-over, Emptied, phase-of, bracket-of, To-bracket}
+use Rattle.values.specs.Skipping.{over, reached, beyond, resumed, stops-at, skip-of-number, skip-of, Passed-over, Emptied, phase-of, bracket-of, To-bracket}
 use Rattle.values.specs.Items.{number-behind, number-stops, dark}
 use Rattle.values.specs.Plain.{plain-goes-on, plain-beyond}
 use Rattle.values.specs.Brackets.{opening-of, white-value, opening}
 use Rattle.values.specs.declared.Skip.{Skip}
 use Rattle.values.specs.declared.Skip.the-variants.{Behind, Stop}
+
+-- ---- what is reached
+
+-- it stands further on from a place before
+beyond-from : (at j : ℕ) (t : List ℕ) (s : Skip) → at ≤ j → beyond j t s → beyond at t s
+beyond-from at j t (Behind e) l b = (omega (arith, b .0), b .1)
+beyond-from at j t (Stop p) l b = (omega (arith, b .0), b .1)
+
+-- it stands no further back
+beyond-reached : (at : ℕ) (t : List ℕ) (s : Skip) → beyond at t s → at ≤ reached s
+beyond-reached at t (Behind e) b = omega (arith, b .0)
+beyond-reached at t (Stop p) b = b .0
 
 -- ---- between brackets
 
@@ -40,30 +52,31 @@ pub record Between (k : Bracket) (t : List ℕ) (at depth j : ℕ) (opened : Boo
 pub between-none : (k : Bracket) (t : List ℕ) (at depth : ℕ) → at ≤ length t → Between k t at depth at true
 between-none k t at depth l = record { goes-on = λ h due room. refl; ahead = le-refl at; within = l }
 
-module _ (k : Bracket) (t : List ℕ) (at depth j : ℕ) (opened : Bool) (B : Between k t at depth j opened) (n : ℕ) (T : To-bracket (closing k) t j opened (skip-of-number t n)) where
+module _ (k : Bracket) (t : List ℕ) (at depth j : ℕ) (opened : Bool) (B : Between k t at depth j opened) (n : ℕ) (T : To-bracket (closing k) t j opened (skip-of-number n)) where
   -- no bracket follows
-  pub between-stops : length t < n → Emptied k t at depth (skip-of-number t n)
+  pub between-stops : stops-at ≤ n → Emptied k t at depth (skip-of-number n)
   between-stops l =
-      let M = rw (number-stops t n l) at T in
-      rw (number-stops t n l) (record { goes-on = λ h due room. B .goes-on h due room ∙ M .goes-on k refl h due; ahead = omega (arith, B .ahead, M .ahead .0) })
+      let M = rw (number-stops n l) at T in
+      rw (number-stops n l)
+      (record { goes-on = λ h due room. B .goes-on h due room ∙ M .goes-on k refl h due; ahead = beyond-from at j t (Stop (n - stops-at)) (B .ahead) (M .ahead) })
 
   -- n is the place behind a bracket
-  module _ (l : n ≤ length t) where
+  module _ (l : n < stops-at) where
     -- which closes or opens
     bracket : To-bracket (closing k) t j opened (Behind n)
-    bracket = rw (number-behind t n l) at T
+    bracket = rw (number-behind n l) at T
 
-    -- n is further on
-    pub between-ahead : j < n
-    between-ahead = bracket .ahead .0
+    -- n is further on, within the text
+    pub between-ahead : beyond j t (Behind n)
+    between-ahead = bracket .ahead
 
     -- it is the closing one
-    pub between-closed : getD t (n - 1) 0 ≡ closing k → Emptied k t at depth (skip-of-number t n)
+    pub between-closed : getD t (n - 1) 0 ≡ closing k → Emptied k t at depth (skip-of-number n)
     between-closed e =
-        rw (number-behind t n l)
+        rw (number-behind n l)
         (record {
           goes-on = λ h due room. B .goes-on h due room ∙ bracket .goes-on k refl h due ∙ rw (eq-eqb (getD t (n - 1) 0) (closing k) e);
-          ahead = omega (arith, B .ahead, between-ahead);
+          ahead = beyond-from at j t (Behind n) (B .ahead) between-ahead;
         })
 
     module _ (o : getD t (n - 1) 0 ≡ closing k → ⊥) where
@@ -73,43 +86,42 @@ module _ (k : Bracket) (t : List ℕ) (at depth j : ℕ) (opened : Bool) (B : Be
         goes-on = λ h due room.
             B .goes-on h due room ∙ bracket .goes-on k refl h due
             ∙ rw (ne-eqb (getD t (n - 1) 0) (closing k) o, le-ltb (suc (length due)) depth-limit (omega arith));
-        ahead = omega (arith, B .ahead, between-ahead);
+        ahead = (omega (arith, B .ahead, between-ahead .0), omega (arith, between-ahead .1));
       }
 
       -- there is room for it
-      module _ (d : depth ≡ 0 → ⊥) (r : ℕ) (E : Emptied (bracket-of (getD t (n - 1) 0)) t n (depth - 1) (skip-of-number t r)) where
+      module _ (d : depth ≡ 0 → ⊥) (r : ℕ) (E : Emptied (bracket-of (getD t (n - 1) 0)) t n (depth - 1) (skip-of-number r)) where
         -- what stands in it is skipped
-        empties : (h : Here) (due : List Bracket) → suc (length due) + depth ≡ depth-limit → from h (k ∷ due) first t at ≡ resumed h (k ∷ due) t (skip-of-number t r)
+        empties : (h : Here) (due : List Bracket) → suc (length due) + depth ≡ depth-limit → from h (k ∷ due) first t at ≡ resumed h (k ∷ due) t (skip-of-number r)
         empties h due room =
             let p = pos-of-ne-zero d in
             B .goes-on h due room ∙ bracket .goes-on k refl h due
             ∙ rw (ne-eqb (getD t (n - 1) 0) (closing k) o, lt-ltb (suc (length due)) depth-limit (omega arith)) (E .goes-on h (k ∷ due) (omega arith))
 
         -- it is refused
-        pub between-refused : length t < r → Emptied k t at depth (skip-of-number t r)
+        pub between-refused : stops-at ≤ r → Emptied k t at depth (skip-of-number r)
         between-refused z = record {
-          goes-on = λ h due room. rw (number-stops t r z) (rw (number-stops t r z) at (empties h due room));
-          ahead = omega (arith, B .ahead, between-ahead, E .ahead);
+          goes-on = λ h due room. rw (number-stops r z) (rw (number-stops r z) at (empties h due room));
+          ahead = beyond-from at n t (skip-of-number r) (omega (arith, B .ahead, between-ahead .0)) (E .ahead);
         }
+
+        -- r is further on, within the text
+        ends : r < stops-at → beyond n t (Behind r)
+        ends z = rw (number-behind r z) at (E .ahead)
 
         -- it ends at r, and what follows it is still to come
-        pub between-more : r ≤ length t → Between k t at depth r false
+        pub between-more : r < stops-at → Between k t at depth r false
         between-more z = record {
-          goes-on = λ h due room. rw (number-behind t r z) at (empties h due room);
-          ahead = omega (arith, B .ahead, between-ahead, rw (number-behind t r z) at (E .ahead));
-          within = z;
+          goes-on = λ h due room. rw (number-behind r z) at (empties h due room);
+          ahead = omega (arith, B .ahead, between-ahead .0, ends z .0);
+          within = ends z .1;
         }
 
-        -- r is further on
-        pub between-falls : r ≤ length t → length t - r < length t - j
-        between-falls z = omega (arith, between-ahead, rw (number-behind t r z) at (E .ahead))
+        -- less is left
+        pub between-falls : r < stops-at → length t - r < length t - j
+        between-falls z = omega (arith, between-ahead .0, ends z .0, ends z .1)
 
 -- ---- the value of a pair
-
--- what is reached stands no further back
-beyond-reached : (at : ℕ) (t : List ℕ) (s : Skip) → beyond at t s → at ≤ reached s
-beyond-reached at t (Behind e) b = omega (arith, b .0)
-beyond-reached at t (Stop p) b = b .0
 
 -- i is the place behind the white space
 module _ (t : List ℕ) (at i : ℕ) (here : i ≡ behind White t at) where
@@ -131,7 +143,7 @@ module _ (t : List ℕ) (at i : ℕ) (here : i ≡ behind White t at) where
     pub value-opens : (k : Bracket) → getD t i 0 ≡ opening-of k → (r : Skip) → Emptied k t (i + 1) (depth-limit - 1) r → Passed-over t at r
     value-opens k e r E = record {
       goes-on = λ h. reach h ∙ opening t i l (dark t at i here l) h k [] e ∙ E .goes-on h [] refl ∙ pair-ends h r;
-      ahead = omega (arith, E .ahead);
+      ahead = omega (arith, beyond-reached (i + 1) t r (E .ahead));
     }
 
     -- no bracket opens there

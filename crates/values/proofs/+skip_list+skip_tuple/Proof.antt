@@ -8,8 +8,9 @@ use lib.ListN.{length, getD}
 use borrow.Fn.Kinds.{In}
 use borrow.Fn.PlainCycle.{Measures, is, falls, and}
 use Rattle.grammar.specs.File.{list, tuple}
-use Rattle.values.specs.Skipping.{skip-of-number, bracket-of, Emptied}
+use Rattle.values.specs.Skipping.{beyond, skip-of-number, bracket-of, Emptied}
 use Rattle.values.specs.Skips.{opened-list, opened-tuple, Between, between-none, between-stops, between-ahead, between-closed, between-deep, between-refused, between-more, between-falls}
+use Rattle.values.specs.declared.Skip.the-variants.{Behind}
 use Rattle.values.proofs.skip_list.Reads as skip-list
 use Rattle.values.proofs.skip_list.Kinds as skip-list-kinds
 use Rattle.values.proofs.+skip_list+skip_tuple.Lts-skip_list as skip-list-lts
@@ -53,10 +54,15 @@ list-Inv text at depth j₀ opened₀ j opened = Between list text at depth j op
 abbrev list-μ : skip-list-lts.MeasureT-loop
 list-μ text at depth j₀ opened₀ j opened = length text - j
 
+-- a bracket is passed
+list-ahead : (t : ℕ) (c : skip-list-lts.Else1 (list-claims t) (list-at t) skip-list.Post list-Inv list-μ)
+    → beyond (c .before .before .loop .j) (c .before .before .before .before .args .text .now) (Behind (c .before .flat .result))
+list-ahead t c = between-ahead _ _ _ _ _ _ (c .before .before .loop .inv) _ (c .before .flat .ensures) (c .if1 .left)
+
 -- whichever bracket was opened, what stands in it is skipped
 list-inner : (t : ℕ) (c : skip-list-lts.Joined4 (list-claims t) (list-at t) skip-list.Post list-Inv list-μ)
     → let s = c .before .before .before .before .before .before .before .before in let n = c .before .before .before .before .before .flat .result in
-    Emptied (bracket-of (getD (s .args .text .now) (n - 1) 0)) (s .args .text .now) n (s .args .depth - 1) (skip-of-number (s .args .text .now) (c .if4 .e))
+    Emptied (bracket-of (getD (s .args .text .now) (n - 1) 0)) (s .args .text .now) n (s .args .depth - 1) (skip-of-number (c .if4 .e))
 list-inner t c =
     ⊎-elim (λ w. rw (w .2) (opened-list _ _ _ _ _ (w .0 .taken) (w .1 .ensures)))
     (λ w. rw (w .2) (opened-tuple _ _ _ _ _ (w .0 .left) (w .1 .ensures)))
@@ -72,13 +78,10 @@ list-returns : (t : ℕ) → skip-list-lts.Need-returns (list-claims t) (list-at
 list-returns t c = between-stops _ _ _ _ _ _ (c .before .before .loop .inv) _ (c .before .flat .ensures) (c .if1 .taken)
 
 list-sub-i : (t : ℕ) → skip-list-lts.Need-sub-i (list-claims t) (list-at t) skip-list.Post list-Inv list-μ
-list-sub-i t c = let a = between-ahead _ _ _ _ _ _ (c .before .before .loop .inv) _ (c .before .flat .ensures) (c .if1 .left) in omega arith
+list-sub-i t c = omega (arith, list-ahead t c .0)
 
 list-shared-slice-read-b : (t : ℕ) → skip-list-lts.Need-shared-slice-read-b (list-claims t) (list-at t) skip-list.Post list-Inv list-μ
-list-shared-slice-read-b t c =
-    let a = between-ahead _ _ _ _ _ _ (c .before .before .before .loop .inv) _ (c .before .before .flat .ensures) (c .before .if1 .left) in
-    let l = c .before .if1 .left in
-    omega arith
+list-shared-slice-read-b t c = omega (arith, list-ahead t (c .before) .0, list-ahead t (c .before) .1)
 
 list-returns-2 : (t : ℕ) → skip-list-lts.Need-returns-2 (list-claims t) (list-at t) skip-list.Post list-Inv list-μ
 list-returns-2 t c = between-closed _ _ _ _ _ _ (c .before .before .before .before .loop .inv) _ (c .before .before .before .flat .ensures) (c .before .before .if1 .left) (c .if2 .taken)
@@ -96,13 +99,13 @@ list-sub-skip-list : (t : ℕ) → skip-list-lts.Need-sub-skip-list (list-claims
 list-sub-skip-list t c = pos-of-ne-zero (c .before .if3 .left)
 
 list-skip-list-requires : (t : ℕ) → skip-list-lts.Need-skip-list-requires (list-claims t) (list-at t) skip-list.Post list-Inv list-μ
-list-skip-list-requires t c κs = (let d = pos-of-ne-zero (c .before .if3 .left) in omega arith, c .before .before .before .before .if1 .left)
+list-skip-list-requires t c κs = (let d = pos-of-ne-zero (c .before .if3 .left) in omega arith, list-ahead t (c .before .before .before .before) .1)
 
 list-sub-skip-tuple : (t : ℕ) → skip-list-lts.Need-sub-skip-tuple (list-claims t) (list-at t) skip-list.Post list-Inv list-μ
 list-sub-skip-tuple t c = pos-of-ne-zero (c .before .if3 .left)
 
 list-skip-tuple-requires : (t : ℕ) → skip-list-lts.Need-skip-tuple-requires (list-claims t) (list-at t) skip-list.Post list-Inv list-μ
-list-skip-tuple-requires t c κs = (let d = pos-of-ne-zero (c .before .if3 .left) in omega arith, c .before .before .before .before .if1 .left)
+list-skip-tuple-requires t c κs = (let d = pos-of-ne-zero (c .before .if3 .left) in omega arith, list-ahead t (c .before .before .before .before) .1)
 
 list-returns-4 : (t : ℕ) → skip-list-lts.Need-returns-4 (list-claims t) (list-at t) skip-list.Post list-Inv list-μ
 list-returns-4 t c =
@@ -133,10 +136,15 @@ tuple-Inv text at depth j₀ opened₀ j opened = Between tuple text at depth j 
 abbrev tuple-μ : skip-tuple-lts.MeasureT-loop
 tuple-μ text at depth j₀ opened₀ j opened = length text - j
 
+-- a bracket is passed
+tuple-ahead : (t : ℕ) (c : skip-tuple-lts.Else1 (tuple-claims t) (tuple-at t) skip-tuple.Post tuple-Inv tuple-μ)
+    → beyond (c .before .before .loop .j) (c .before .before .before .before .args .text .now) (Behind (c .before .flat .result))
+tuple-ahead t c = between-ahead _ _ _ _ _ _ (c .before .before .loop .inv) _ (c .before .flat .ensures) (c .if1 .left)
+
 -- whichever bracket was opened, what stands in it is skipped
 tuple-inner : (t : ℕ) (c : skip-tuple-lts.Joined4 (tuple-claims t) (tuple-at t) skip-tuple.Post tuple-Inv tuple-μ)
     → let s = c .before .before .before .before .before .before .before .before in let n = c .before .before .before .before .before .flat .result in
-    Emptied (bracket-of (getD (s .args .text .now) (n - 1) 0)) (s .args .text .now) n (s .args .depth - 1) (skip-of-number (s .args .text .now) (c .if4 .e))
+    Emptied (bracket-of (getD (s .args .text .now) (n - 1) 0)) (s .args .text .now) n (s .args .depth - 1) (skip-of-number (c .if4 .e))
 tuple-inner t c =
     ⊎-elim (λ w. rw (w .2) (opened-list _ _ _ _ _ (w .0 .taken) (w .1 .ensures)))
     (λ w. rw (w .2) (opened-tuple _ _ _ _ _ (w .0 .left) (w .1 .ensures)))
@@ -152,13 +160,10 @@ tuple-returns : (t : ℕ) → skip-tuple-lts.Need-returns (tuple-claims t) (tupl
 tuple-returns t c = between-stops _ _ _ _ _ _ (c .before .before .loop .inv) _ (c .before .flat .ensures) (c .if1 .taken)
 
 tuple-sub-i : (t : ℕ) → skip-tuple-lts.Need-sub-i (tuple-claims t) (tuple-at t) skip-tuple.Post tuple-Inv tuple-μ
-tuple-sub-i t c = let a = between-ahead _ _ _ _ _ _ (c .before .before .loop .inv) _ (c .before .flat .ensures) (c .if1 .left) in omega arith
+tuple-sub-i t c = omega (arith, tuple-ahead t c .0)
 
 tuple-shared-slice-read-b : (t : ℕ) → skip-tuple-lts.Need-shared-slice-read-b (tuple-claims t) (tuple-at t) skip-tuple.Post tuple-Inv tuple-μ
-tuple-shared-slice-read-b t c =
-    let a = between-ahead _ _ _ _ _ _ (c .before .before .before .loop .inv) _ (c .before .before .flat .ensures) (c .before .if1 .left) in
-    let l = c .before .if1 .left in
-    omega arith
+tuple-shared-slice-read-b t c = omega (arith, tuple-ahead t (c .before) .0, tuple-ahead t (c .before) .1)
 
 tuple-returns-2 : (t : ℕ) → skip-tuple-lts.Need-returns-2 (tuple-claims t) (tuple-at t) skip-tuple.Post tuple-Inv tuple-μ
 tuple-returns-2 t c = between-closed _ _ _ _ _ _ (c .before .before .before .before .loop .inv) _ (c .before .before .before .flat .ensures) (c .before .before .if1 .left) (c .if2 .taken)
@@ -176,13 +181,13 @@ tuple-sub-skip-list : (t : ℕ) → skip-tuple-lts.Need-sub-skip-list (tuple-cla
 tuple-sub-skip-list t c = pos-of-ne-zero (c .before .if3 .left)
 
 tuple-skip-list-requires : (t : ℕ) → skip-tuple-lts.Need-skip-list-requires (tuple-claims t) (tuple-at t) skip-tuple.Post tuple-Inv tuple-μ
-tuple-skip-list-requires t c κs = (let d = pos-of-ne-zero (c .before .if3 .left) in omega arith, c .before .before .before .before .if1 .left)
+tuple-skip-list-requires t c κs = (let d = pos-of-ne-zero (c .before .if3 .left) in omega arith, tuple-ahead t (c .before .before .before .before) .1)
 
 tuple-sub-skip-tuple : (t : ℕ) → skip-tuple-lts.Need-sub-skip-tuple (tuple-claims t) (tuple-at t) skip-tuple.Post tuple-Inv tuple-μ
 tuple-sub-skip-tuple t c = pos-of-ne-zero (c .before .if3 .left)
 
 tuple-skip-tuple-requires : (t : ℕ) → skip-tuple-lts.Need-skip-tuple-requires (tuple-claims t) (tuple-at t) skip-tuple.Post tuple-Inv tuple-μ
-tuple-skip-tuple-requires t c κs = (let d = pos-of-ne-zero (c .before .if3 .left) in omega arith, c .before .before .before .before .if1 .left)
+tuple-skip-tuple-requires t c κs = (let d = pos-of-ne-zero (c .before .if3 .left) in omega arith, tuple-ahead t (c .before .before .before .before) .1)
 
 tuple-returns-4 : (t : ℕ) → skip-tuple-lts.Need-returns-4 (tuple-claims t) (tuple-at t) skip-tuple.Post tuple-Inv tuple-μ
 tuple-returns-4 t c =

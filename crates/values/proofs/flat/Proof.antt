@@ -1,9 +1,11 @@
 -- `values::flat` meets its contract: up to the place of each turn there is no bracket, and each answer is a law of `Items`.
 -- Assumes nothing.
 use borrow.Author.Needs.{needs}
-use Prim.Native.Nat.{_-_}
+use Prim.Native.Nat.{_-_, _<_}
+use native.Mathlib.Omega.{arith}
 use lib.ListN.{length}
 use Rattle.grammar.specs.File.{list, tuple}
+use Rattle.values.specs.Skipping.{stops-at}
 use Rattle.values.specs.Items.{Along, along-none, along-stops, along-inside, along-closed, along-opens, along-refused, along-more, along-falls}
 use Rattle.values.proofs.flat.Statement.{statement}
 use Rattle.values.proofs.flat.Tie as tie
@@ -13,6 +15,10 @@ Inv-loop text at close opened j₀ first₀ j first = Along close text at opened
 
 abbrev μ-loop : tie.MeasureT-loop
 μ-loop text at close opened j₀ first₀ j first = length text - j
+
+-- no text is so long
+short : (c : tie.Start Inv-loop μ-loop) → length (c .args .text .now) < stops-at
+short c = omega (arith, c .good .0 .1)
 
 loop-holds : tie.Need-loop-holds Inv-loop μ-loop
 loop-holds c = along-none _ _ _ _ (c .before .pre)
@@ -30,17 +36,21 @@ add-past : tie.Need-add-past Inv-loop μ-loop
 add-past c = search needs
 
 returns-2 : tie.Need-returns-2 Inv-loop μ-loop
-returns-2 c = let i = c .before .before .before in along-closed _ _ _ _ _ _ (i .before .loop .inv) _ (i .next-item .ensures) (c .before .before .if1 .left) (c .if2 .taken)
+returns-2 c =
+    let i = c .before .before .before in
+    along-closed _ _ _ _ _ _ (i .before .loop .inv) _ (i .next-item .ensures) (c .before .before .if1 .left) (short (i .before .before .before)) (c .if2 .taken)
 
 returns-3 : tie.Need-returns-3 Inv-loop μ-loop
 returns-3 c =
     let l = c .before .before .before in
-    along-opens _ _ _ _ _ _ (l .before .before .loop .inv) _ (l .before .next-item .ensures) (l .if1 .left) (c .before .if2 .left) list (c .if3 .taken)
+    along-opens _ _ _ _ _ _ (l .before .before .loop .inv) _ (l .before .next-item .ensures) (l .if1 .left) (c .before .if2 .left)
+    (short (l .before .before .before .before)) list (c .if3 .taken)
 
 returns-4 : tie.Need-returns-4 Inv-loop μ-loop
 returns-4 c =
     let l = c .before .before .before .before in
-    along-opens _ _ _ _ _ _ (l .before .before .loop .inv) _ (l .before .next-item .ensures) (l .if1 .left) (c .before .before .if2 .left) tuple (c .if4 .taken)
+    along-opens _ _ _ _ _ _ (l .before .before .loop .inv) _ (l .before .next-item .ensures) (l .if1 .left) (c .before .before .if2 .left)
+    (short (l .before .before .before .before)) tuple (c .if4 .taken)
 
 plain-requires : tie.Need-plain-requires Inv-loop μ-loop
 plain-requires c κs = let l = c .before .before .before .before in along-inside _ _ _ _ _ _ (l .before .before .loop .inv) _ (l .before .next-item .ensures) (l .if1 .left)

@@ -10,7 +10,7 @@ use Rattle.values.proofs.skip_value.Statement.{statement}
 use Rattle.values.proofs.skip_value.Tie as tie
 
 -- whichever skipper answered
-skipped : (c : tie.Joined2) → let s = c .before .before .before .before .before in Passed-over (s .args .text .now) (s .args .at) (skip-of-number (s .args .text .now) (c .if2 .r))
+skipped : (c : tie.Joined2) → let s = c .before .before .before .before .before in Passed-over (s .args .text .now) (s .args .at) (skip-of-number (c .if2 .r))
 skipped c =
     let l = c .before .before in
     let w = l .before .past-white .ensures in
@@ -49,17 +49,11 @@ skip-tuple-requires c κs = search needs
 plain-requires : tie.Need-plain-requires
 plain-requires c κs = search needs
 
-sub-p : tie.Need-sub-p
-sub-p c = search needs
-
-sub-p-2 : tie.Need-sub-p-2
-sub-p-2 c = search needs
-
 returns-2 : tie.Need-returns-2
-returns-2 c = rw (number-stops _ _ (c .before .if4 .taken)) at (skipped (c .before .before))
+returns-2 c = rw (number-stops _ (c .before .if4 .taken)) at (skipped (c .before .before))
 
 returns-3 : tie.Need-returns-3
-returns-3 c = rw (number-behind _ _ (c .if4 .left)) at (skipped (c .before))
+returns-3 c = rw (number-behind _ (c .if4 .left)) at (skipped (c .before))
 
 pub skip-value-spec : {M : Type 1} → statement M
 skip-value-spec =
@@ -75,7 +69,5 @@ skip-value-spec =
     sub-skip-tuple
     skip-tuple-requires
     plain-requires
-    sub-p
-    sub-p-2
     returns-2
     returns-3)

@@ -8,11 +8,8 @@ use Rattle.values.proofs.stop.Tie as tie
 add-result : tie.Need-add-result
 add-result c = search needs
 
-add-result-2 : tie.Need-add-result-2
-add-result-2 c = search needs
-
 returns : tie.Need-returns
-returns c = number-of-stop _ _
+returns c = number-of-stop _
 
 pub stop-spec : {M : Type 1} → statement M
-stop-spec = tie.close (tie.spec add-result add-result-2 returns)
+stop-spec = tie.close (tie.spec add-result returns)

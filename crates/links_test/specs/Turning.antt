@@ -1,15 +1,16 @@
 -- The 64 x 64 digits of 64 words turned about their diagonal: 16 rows at a time by four rounds, each 16 columns by themselves, and then all by the
 -- rounds at 16 and 32. Assumes nothing.
 use mathlib.Core.Path.{_≡_, refl, sym, ap, ap₂, _∙_}
-use mathlib.Core.Logic.{_⊎_, inl, inr, ⊎-elim}
+use mathlib.Core.Logic.{⊎-elim}
 use mathlib.Core.Bool.{Bool, true, _&&_, and-assoc}
-use mathlib.Core.List.{List}
+use mathlib.Core.List.{List, [], _∷_, _++_}
 use Prim.Native.Nat.{ℕ, _+_, _-_, _*_, _/_, _%_, _^_, _≤_, _<_}
+use native.Mathlib.Numerals.{add-one}
 use native.Mathlib.Omega.{arith}
 use lib.Dec.{eqb, leb}
 use lib.Bits.{bitOr, bitXor}
-use lib.ListN.{length, set, length-set}
-use lib.Seq.{getD-set-same, getD-set-other}
+use lib.ListN.{length, set, take, drop, replicate, length-append, length-drop, List·getD-append}
+use lib.Seq.{take-all, take-suc, take-suc-set, length-take-le, getD-take, getD-drop, drop-at}
 use Rattle.nodes.specs.Sets.{node-limit, has, empty, union, word-at}
 use Rattle.nodes.specs.Bools.{by-lt, test-ext}
 use Rattle.nodes.specs.SetLaws.{has-above, has-ext}
@@ -22,51 +23,27 @@ use Rattle.links_test.specs.Exchange.{unit-rows, place, placed, Half, ch
 abbrev pub units : ℕ
 units = node-limit / unit-rows
 
--- the rows of turned from start on are those of links, turned, each 16 columns by themselves
-pub record TurnedAt (start : ℕ) (links turned : List ℕ) : Type 0 where
-  pub at : (k c : ℕ) → k < unit-rows → c < node-limit
-      → has (word-at turned (start + k)) c ≡ has (word-at links (start + c % unit-rows)) (c / unit-rows * unit-rows + k)
-
--- k words from start on are those of f, and the others are as before
-pub record Copied (start k : ℕ) (f : ℕ → ℕ) (before after : List ℕ) : Type 0 where
-  pub long : length after ≡ length before
-  pub here : (i : ℕ) → i < k → word-at after (start + i) ≡ f i
-  pub rest : (i : ℕ) → (i < start) ⊎ (start + k ≤ i) → word-at after i ≡ word-at before i
-
--- one unit is turned, and the other rows are as before
-pub record UnitTurned (start : ℕ) (links before after : List ℕ) : Type 0 where
-  pub long : length after ≡ length before
-  pub here : TurnedAt start links after
-  pub rest : (i : ℕ) → (i < start) ⊎ (start + unit-rows ≤ i) → word-at after i ≡ word-at before i
+-- the first 16 rows of turned are those of links, turned, each 16 columns by themselves
+pub record UnitTurned (links turned : List ℕ) : Type 0 where
+  pub at : (k c : ℕ) → k < unit-rows → c < node-limit → has (word-at turned k) c ≡ has (word-at links (c % unit-rows)) (c / unit-rows * unit-rows + k)
 
 -- the first n units are turned
 abbrev pub TurnedBelow : ℕ → List ℕ → List ℕ → Type 0
-TurnedBelow n links turned = (u : ℕ) → u < n → TurnedAt (unit-rows * u) links turned
+TurnedBelow n links turned = (u : ℕ) → u < n → UnitTurned (drop (unit-rows * u) links) (drop (unit-rows * u) turned)
 
 -- the connections of the nodes k, 16 + k, 32 + k and 48 + k are mutual
 abbrev pub units-mutual : List ℕ → ℕ → Bool
 units-mutual links k = all-below units (λ u. all-below node-limit (both-ways links (unit-rows * u + k)))
 
--- ---- words copied one by one
+-- ---- 16 words copied one by one
 
-pub none-copied : (start : ℕ) (f : ℕ → ℕ) (ws : List ℕ) → Copied start 0 f ws ws
-none-copied start f ws = record { long = refl; here = λ i l. absurd (omega arith); rest = λ i o. refl }
+pub one-copied : (k : ℕ) (from to : List ℕ) → length from ≡ unit-rows → length to ≡ unit-rows → k < unit-rows → take k to ≡ take k from
+    → take (k + 1) (set to k (word-at from k)) ≡ take (k + 1) from
+one-copied k from to lf lt l was =
+    rw add-one (take-suc-set to k (word-at from k) (omega arith) ∙ ap (λ (ws : List ℕ). ws ++ (word-at from k ∷ [])) was ∙ sym (take-suc from k 0 (omega arith)))
 
-pub one-copied : (start k n : ℕ) (f : ℕ → ℕ) (before after : List ℕ) → n ≡ start + k → n < length after → Copied start k f before after
-    → Copied start (k + 1) f before (set after n (f k))
-one-copied start k n f before after e l was = record {
-  long = simp length-set (was .long);
-  here = λ i m.
-      ⊎-elim (λ lt. getD-set-other after n (start + i) (f k) 0 (λ q. omega arith) ∙ was .here i lt)
-      (λ ge.
-      let own : start + i ≡ n = omega arith in
-      let last : k ≡ i = omega arith in
-      rw own (getD-set-same after n (f k) 0 l) ∙ ap f last)
-      (by-lt i k);
-  rest = λ i o.
-      getD-set-other after n i (f k) 0 (λ q. ⊎-elim (λ lt. omega arith) (λ ge. omega arith) o)
-      ∙ was .rest i (⊎-elim (λ lt. inl lt) (λ ge. inr (omega arith)) o);
-}
+pub all-copied : (k : ℕ) (from to : List ℕ) → length from ≡ unit-rows → length to ≡ unit-rows → unit-rows ≤ k → take k to ≡ take k from → to ≡ from
+all-copied k from to lf lt ge all = sym (take-all k to (omega arith)) ∙ all ∙ take-all k from (omega arith)
 
 -- ---- the rounds of a unit
 
@@ -100,34 +77,27 @@ turned-more j a b c all t x = record {
       ∙ ap₂ (λ (i n : ℕ). has (word-at a i) n) (s .0 .1) (s .1);
 }
 
--- the rounds at 8, 4, 2 and 1, from words that were copied and back
-pub unit-turned : (start : ℕ) (links zeros rows b₁ b₂ b₃ b₄ before after : List ℕ) → Copied 0 unit-rows (λ i. word-at links (start + i)) zeros rows
-    → Exchanged 8 rows b₁ → Exchanged 4 b₁ b₂ → Exchanged 2 b₂ b₃ → Exchanged 1 b₃ b₄ → Copied start unit-rows (word-at b₄) before after
-    → UnitTurned start links before after
+-- the rounds at 8, 4, 2 and 1
+pub unit-turned : (links b₁ b₂ b₃ b₄ : List ℕ) → Exchanged 8 links b₁ → Exchanged 4 b₁ b₂ → Exchanged 2 b₂ b₃ → Exchanged 1 b₃ b₄ → UnitTurned links b₄
 unfolding all-below
-unit-turned start links zeros rows b₁ b₂ b₃ b₄ before after from x₁ x₂ x₃ x₄ to = record {
-  long = to .long;
-  here = record {
-    at = λ k c lk lc.
-        let row : row-before 1 k c ≡ 0 + c % unit-rows = omega arith in
-        let col : col-before 1 k c ≡ c / unit-rows * unit-rows + k = omega arith in
-        ap (λ (w : ℕ). has w c) (to .here k lk) ∙ all .at k c lk lc ∙ ap₂ (λ (i n : ℕ). has (word-at rows i) n) row col
-        ∙ ap (λ (w : ℕ). has w (c / unit-rows * unit-rows + k)) (from .here (c % unit-rows) (omega arith));
-  };
-  rest = to .rest;
+unit-turned links b₁ b₂ b₃ b₄ x₁ x₂ x₃ x₄ = record {
+  at = λ k c lk lc.
+      let row : row-before 1 k c ≡ c % unit-rows = omega arith in
+      let col : col-before 1 k c ≡ c / unit-rows * unit-rows + k = omega arith in
+      all .at k c lk lc ∙ ap₂ (λ (i n : ℕ). has (word-at links i) n) row col;
 }
   where
-    none : Turned unit-rows rows rows
+    none : Turned unit-rows links links
     none = record {
       at = λ r c lr lc.
           let row : r ≡ row-before unit-rows r c = omega arith in
           let col : c ≡ col-before unit-rows r c = omega arith in
-          ap₂ (λ (i n : ℕ). has (word-at rows i) n) row col;
+          ap₂ (λ (i n : ℕ). has (word-at links i) n) row col;
     }
 
-    all : Turned 1 rows b₄
+    all : Turned 1 links b₄
     all =
-        turned-more 1 rows b₃ b₄ refl (turned-more 2 rows b₂ b₃ refl (turned-more 4 rows b₁ b₂ refl (turned-more 8 rows rows b₁ refl none x₁) x₂) x₃) x₄
+        turned-more 1 links b₃ b₄ refl (turned-more 2 links b₂ b₃ refl (turned-more 4 links b₁ b₂ refl (turned-more 8 links links b₁ refl none x₁) x₂) x₃) x₄
 
 -- the masks of the rounds
 
@@ -231,7 +201,7 @@ module _ (links turned : List ℕ) (k : ℕ) (lk : k < unit-rows) (t : TurnedBel
       let col = unit-rows * u + c % unit-rows in
       let node : unit-rows * (c / unit-rows) + col % unit-rows ≡ c = omega arith in
       let own : col / unit-rows * unit-rows + k ≡ unit-rows * u + k = omega arith in
-      joined-at row u c lu lc ∙ t (c / unit-rows) (omega arith) .at k col lk (omega arith) ∙ ap₂ (λ (i n : ℕ). has (word-at links i) n) node own
+      joined-at row u c lu lc ∙ simp getD-drop at (t (c / unit-rows) (omega arith) .at k col lk (omega arith)) ∙ ap₂ (λ (i n : ℕ). has (word-at links i) n) node own
 
   same : (u v i : ℕ) → u < units → i ≡ unit-rows * u + k → v < 2 ^ node-limit → v ≡ joined-row turned k u
       → empty (bitXor v (word-at links i)) ≡ all-below node-limit (both-ways links (unit-rows * u + k))
@@ -265,16 +235,53 @@ all-units links =
 
 -- ---- one unit more
 
-pub none-turned : (links turned : List ℕ) → TurnedBelow 0 links turned
-none-turned links turned u l = absurd (omega arith)
+-- rows in the place of unit n
+abbrev pub with-unit : ℕ → List ℕ → List ℕ → List ℕ
+with-unit n rows ws = take (unit-rows * n) ws ++ (rows ++ drop unit-rows (drop (unit-rows * n) ws))
 
-pub one-turned : (n : ℕ) (links before after : List ℕ) → TurnedBelow n links before → UnitTurned (unit-rows * n) links before after
-    → TurnedBelow (n + 1) links after
-one-turned n links before after was more u l =
-    ⊎-elim (λ lt. record {
-      at = λ k c lk lc. ap (λ (w : ℕ). has w c) (more .rest (unit-rows * u + k) (inl (omega arith))) ∙ was u lt .at k c lk lc;
-    })
-    (λ ge.
-    let e : u ≡ n = omega arith in
-    rw e (more .here))
-    (by-lt u n)
+-- of 64 rows the first n units are turned
+pub record UnitsTurned (n : ℕ) (links turned : List ℕ) : Type 0 where
+  pub long : length turned ≡ node-limit
+  pub below : TurnedBelow n links turned
+
+pub none-turned : (links : List ℕ) → UnitsTurned 0 links (replicate node-limit 0)
+none-turned links = record { long = refl; below = λ u l. absurd (omega arith) }
+
+-- unit n is turned, which is a part of the rows
+pub one-turned : (n : ℕ) (links before rows : List ℕ) → n < units → UnitsTurned n links before
+    → length rows ≡ length (take unit-rows (drop (unit-rows * n) before)) → UnitTurned (take unit-rows (drop (unit-rows * n) links)) rows
+    → UnitsTurned (n + 1) links (with-unit n rows before)
+one-turned n links before rows l was as-long more = record {
+  long = simp length-append (omega (arith, ahead, sixteen, behind));
+  below = λ u m.
+      ⊎-elim (λ lt. record {
+        at = λ k c lk lc.
+            let i = unit-rows * u + k in
+            let kept : word-at (with-unit n rows before) i ≡ word-at before i =
+            List·getD-append front (rows ++ rest) 0 i (omega (arith, ahead)) ∙ getD-take (unit-rows * n) before i 0 (omega arith) in
+            ap (λ (w : ℕ). has w c) (simp getD-drop kept) ∙ was .below u lt .at k c lk lc;
+      })
+      (λ ge.
+      let e : u ≡ n = omega arith in
+      rw (e, drop-at front (rows ++ rest) (unit-rows * n) ahead) (record {
+        at = λ k c lk lc.
+            ap (λ (w : ℕ). has w c) (List·getD-append rows rest 0 k (omega (arith, sixteen))) ∙ more .at k c lk lc
+            ∙ ap (λ (w : ℕ). has w (c / unit-rows * unit-rows + k)) (getD-take unit-rows (drop (unit-rows * n) links) (c % unit-rows) 0 (omega arith));
+      }))
+      (by-lt u n);
+}
+  where
+    front : List ℕ
+    front = take (unit-rows * n) before
+
+    rest : List ℕ
+    rest = drop unit-rows (drop (unit-rows * n) before)
+
+    ahead : length front ≡ unit-rows * n
+    ahead = length-take-le (unit-rows * n) before (omega (arith, was .long))
+
+    sixteen : length rows ≡ unit-rows
+    sixteen = as-long ∙ length-take-le unit-rows (drop (unit-rows * n) before) (omega (arith, was .long, length-drop (unit-rows * n) before))
+
+    behind : length rest ≡ node-limit - unit-rows * (n + 1)
+    behind = simp length-drop (omega (arith, was .long))

@@ -9,8 +9,8 @@ use native.Mathlib.Nat.{eq-or-lt-of-le, le-of-suc-le-suc, not-suc-le-zero}
 use native.Mathlib.Numerals.{add-one}
 use native.Mathlib.Omega.{arith}
 use lib.Dec.{eqb, leb}
-use lib.ListN.{length, take, drop, length-drop}
-use lib.Seq.{take-all, getD-drop}
+use lib.ListN.{length, drop, length-drop}
+use lib.Seq.{getD-drop}
 use borrow.Author.Tests.{leb-true, leb-false, eqb-true, not-true, le-leb, lt-leb, eq-eqb}
 use Rattle.nodes.specs.Sets.{node-limit, has, beyond, word-at}
 use Rattle.nodes.specs.SetLaws.{has-below, below-pow}
@@ -25,10 +25,6 @@ below-none p = refl
 pub below-step : (n : ℕ) (p : ℕ → Bool) → all-below (n + 1) p ≡ (all-below n p && p n)
 unfolding all-below
 below-step n p = rw add-one
-
--- the words from n on, as a part that is lent
-pub tail-part : (n : ℕ) (ws : List ℕ) → take (length ws - n) (drop n ws) ≡ drop n ws
-tail-part n ws = take-all (length ws - n) (drop n ws) (simp length-drop (omega arith))
 
 -- ---- for a reader
 

@@ -5,9 +5,9 @@ use mathlib.Core.List.{List, [], _∷_}
 use Prim.Native.Nat.{ℕ, suc, _≤_, _<_, _+_, _-_}
 use native.Mathlib.Numerals.{add-one}
 use native.Mathlib.Omega.{arith}
+use borrow.Rule.Slice.PartAt.{part-to-end}
 use lib.ListN.{length, take, drop, length-drop, drop-of-length-le}
 use lib.Seq.{drop-drop}
-use Rattle.text.specs.FieldLaws.{part-rest}
 use Rattle.line.specs.declared.Request.{Request}
 use Rattle.line.specs.declared.Request.the-variants.{Open, Command, BadLine}
 use Rattle.script.specs.Scripts.{Line, lines-of, size-of}
@@ -28,10 +28,10 @@ first-bad k (l ∷ ls) = cond (is-bad (asks l)) k (first-bad (suc k) ls)
 module _ (script : List ℕ) (i size : ℕ) (q : Request) (h : i < length script)
     (e : size ≡ size-of (first-of (take (length script - i) (drop i script)))) (f : q ≡ asks (first-of (take (length script - i) (drop i script)))) where
   left-size : size ≡ size-of (first-of (drop i script))
-  left-size = e ∙ rw part-rest
+  left-size = e ∙ rw part-to-end
 
   left-asks : q ≡ asks (first-of (drop i script))
-  left-asks = f ∙ rw part-rest
+  left-asks = f ∙ rw part-to-end
 
   some-left : 0 < length (drop i script)
   some-left = omega (arith, length-drop i script)

@@ -6,6 +6,7 @@ use mathlib.Core.List.{List, [], _∷_, _++_, append-assoc, append-nil}
 use Prim.Native.Nat.{ℕ, _≤_, _<_, _+_, _-_}
 use native.Mathlib.Omega.{arith}
 use borrow.Author.Tests.{leb-true, leb-false, le-leb, lt-leb}
+use borrow.Rule.Slice.PartAt.{part-to-end}
 use lib.Dec.{leb}
 use lib.ListN.{length, take, drop}
 use lib.Seq.{length-take-le}
@@ -14,7 +15,6 @@ use Rattle.semantics.specs.Call.{call, opening}
 use Rattle.line.specs.declared.Request.{Request}
 use Rattle.line.specs.declared.Request.the-variants.{Open, Command, BadLine}
 use Rattle.line.specs.Requests.{request-of}
-use Rattle.text.specs.FieldLaws.{part-rest}
 use Rattle.print.specs.Sheets.{Sheet, sheet, put}
 use Rattle.print.specs.Putting.{put-front, put-within}
 use Rattle.print.specs.Decimals.{answer-few}
@@ -71,15 +71,15 @@ pub run-called : (script : List ℕ) (i : ℕ) (t out : List ℕ) (len size : �
     → runs (lines-from script i) i t (sheet out len) ≡ runs (lines-from script (i + size)) (i + size) u (sheet made len₂)
 run-called script i t out len size q u made len₂ f h m e g p w =
     let a : line-at script i ≡ first-of (drop i script) = line-first script i f in
-    let n : size ≡ size-of (line-at script i) = e ∙ rw (part-rest, a) in
-    let k : line-turn t (line-at script i) ≡ request-turn t q = ap (line-turn t) a ∙ turn-first t (drop i script) ∙ sym (ap (request-turn t) (g ∙ rw part-rest)) in
+    let n : size ≡ size-of (line-at script i) = e ∙ rw (part-to-end, a) in
+    let k : line-turn t (line-at script i) ≡ request-turn t q = ap (line-turn t) a ∙ turn-first t (drop i script) ∙ sym (ap (request-turn t) (g ∙ rw part-to-end)) in
     run-line script i t out len h m ∙ rw (← n, k, ← p, ← w)
 
 -- and has so many bytes
 pub first-size : (script : List ℕ) (i size : ℕ) → length script ≤ script-limit → i < length script → size ≡ size-of (first-of (take (length script - i) (drop i script)))
     → (0 < size) × (i + size ≤ length script)
 first-size script i size f h e =
-    let n : size ≡ size-of (line-at script i) = e ∙ rw (part-rest, line-first script i f) in
+    let n : size ≡ size-of (line-at script i) = e ∙ rw (part-to-end, line-first script i f) in
     rw n (size-at script i h)
 
 pub run-over : (script : List ℕ) (i : ℕ) (t : List ℕ) (p : Sheet) → length script ≤ i → runs (lines-from script i) i t p ≡ stop i t p

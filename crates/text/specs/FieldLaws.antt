@@ -2,12 +2,11 @@
 use mathlib.Core.Path.{_≡_, refl}
 use mathlib.Core.Bool.{Bool, true, false, cond}
 use mathlib.Core.List.{List, [], _∷_}
-use Prim.Native.Nat.{ℕ, suc, _≤_, _<_, _-_}
+use Prim.Native.Nat.{ℕ, suc, _≤_, _<_}
 use native.Mathlib.Nat.{le-refl}
 use native.Mathlib.Omega.{arith}
 use lib.Dec.{eqb}
-use lib.ListN.{length, take, drop, length-drop}
-use lib.Seq.{take-all}
+use lib.ListN.{length, take, drop}
 use Rattle.text.specs.Text.{space, find-in, in-front, fields}
 
 -- a byte is found within the list
@@ -19,10 +18,6 @@ find-within b (x ∷ xs) = go (eqb x b) (find-within b xs)
     go : (t : Bool) → find-in b xs ≤ length xs → cond t 0 (suc (find-in b xs)) ≤ suc (length xs)
     go true h = omega arith
     go false h = omega arith
-
--- the part `&t[e..]`
-pub part-rest : (t : List ℕ) (e : ℕ) → take (length t - e) (drop e t) ≡ drop e t
-part-rest t e = take-all (length t - e) (drop e t) (omega (arith, length-drop e t))
 
 -- a space ends the first field
 pub fields-first : (t : List ℕ) → find-in space t < length t → fields t ≡ take (find-in space t) t ∷ fields (drop (suc (find-in space t)) t)

@@ -1,6 +1,7 @@
 -- `book::is_new` meets its contract: an atom without its mark is new, and any other is looked for, by the places of the lines or by their newlines. Assumes nothing.
 use borrow.Author.Needs.{needs}
 use borrow.Author.Tests.{not-true, lt-ltb, le-ltb, lt-leb, le-leb}
+use borrow.Rule.Slice.PartAt.{part-to-end}
 use mathlib.Core.Path.{_≡_, refl, sym, ap, _∙_}
 use mathlib.Core.Logic.{⊎-elim}
 use mathlib.Core.Bool.{Bool, true, false, not, true≢false}
@@ -12,7 +13,6 @@ use lib.ListN.{length}
 use lib.Seq.{length-take-le}
 use Rattle.nodes.specs.Bools.{by-lt}
 use Rattle.tokens.specs.Reserved.{among}
-use Rattle.text.specs.FieldLaws.{part-rest}
 use Rattle.book_index.specs.Layout.{mark-count, has-mark}
 use Rattle.book.specs.Book.{place-of}
 use Rattle.book.specs.Index.{atom-mark, Marked}
@@ -104,7 +104,7 @@ returns-3 c =
     let m = s .before .before .before .before in
     let a = m .before .before .before .before in
     let e : m .mark-of .result % mark-count ≡ atom-mark (a .args .atom .now) = ap (λ (k : ℕ). k % mark-count) (m .mark-of .ensures) in
-    (searched _ (a .args .atom .now) _ _ (a .pre .passed .number) (c .seek .ensures ∙ rw (part-rest (a .args .atom .now) 0)), s .set-mark .ensures ∙ rw e)
+    (searched _ (a .args .atom .now) _ _ (a .pre .passed .number) (c .seek .ensures ∙ rw (part-to-end (a .args .atom .now) 0)), s .set-mark .ensures ∙ rw e)
 
 pub is-new-spec : {M : Type 1} → statement M
 is-new-spec =

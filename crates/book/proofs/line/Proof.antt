@@ -1,5 +1,6 @@
 -- `book::line` meets its contract: line i of the book is line `left` of what is left of it. Assumes nothing.
 use borrow.Author.Needs.{needs}
+use borrow.Rule.Slice.PartAt.{part-to-end}
 use mathlib.Core.Path.{_≡_, sym, ap, _∙_}
 use mathlib.Core.List.{List, []}
 use Prim.Native.Nat.{ℕ, zero, suc, _≤_, _<_, _-_, _+_}
@@ -7,7 +8,7 @@ use native.Mathlib.Omega.{arith}
 use lib.ListN.{length, getD, take, drop, drop-of-length-le}
 use lib.Seq.{length-take-le}
 use Rattle.text.specs.Text.{newline, find-in}
-use Rattle.text.specs.FieldLaws.{find-within, part-rest}
+use Rattle.text.specs.FieldLaws.{find-within}
 use Rattle.book.specs.Book.{lines}
 use Rattle.book.specs.LineLaws.{lines-first, lines-none}
 use Rattle.book.proofs.line.Statement.{statement}
@@ -21,7 +22,7 @@ abbrev μ-loop : tie.MeasureT-loop
 
 -- no line is left in t
 none-left : (m : ℕ) (t : List ℕ) (e : ℕ) → e ≡ find-in newline t → length t ≤ e → take (length t - e) (drop e t) ≡ getD (lines t) m []
-none-left m t e q l = part-rest t e ∙ drop-of-length-le t l ∙ sym (ap (λ (ls : List (List ℕ)). getD ls m []) (lines-none t (omega arith)))
+none-left m t e q l = part-to-end t e ∙ drop-of-length-le t l ∙ sym (ap (λ (ls : List (List ℕ)). getD ls m []) (lines-none t (omega arith)))
 
 -- one is passed
 passed : (m : ℕ) (t : List ℕ) (e : ℕ) → 0 < m → e ≡ find-in newline t → e < length t → getD (lines t) m [] ≡ getD (lines (take (length t - (e + 1)) (drop (e + 1) t))) (m - 1) []
@@ -29,7 +30,7 @@ passed zero t e p q l = absurd (omega arith)
 passed (suc m) t e p q l =
     let a : suc m - 1 ≡ m = omega arith in
     let b : e + 1 ≡ suc (find-in newline t) = omega arith in
-    ap (λ (ls : List (List ℕ)). getD ls (suc m) []) (lines-first t (omega arith)) ∙ rw (part-rest, a, b)
+    ap (λ (ls : List (List ℕ)). getD ls (suc m) []) (lines-first t (omega arith)) ∙ rw (part-to-end, a, b)
 
 -- the first is asked for
 here : (m : ℕ) (t : List ℕ) (e : ℕ) → m ≤ 0 → e ≡ find-in newline t → e < length t → take e t ≡ getD (lines t) m []

@@ -1,9 +1,9 @@
 -- `book::place` meets its contract: a line stands once, so that a line that is the atom is the place. Assumes nothing.
 use borrow.Author.Needs.{needs}
+use borrow.Rule.Slice.PartAt.{part-to-end}
 use mathlib.Core.Path.{sym, ap, _∙_}
 use mathlib.Core.List.{List}
 use Prim.Native.Nat.{ℕ}
-use Rattle.text.specs.FieldLaws.{part-rest}
 use Rattle.book.specs.Book.{lines, place-of}
 use Rattle.book.specs.PlaceLaws.{place-own}
 use Rattle.book.specs.Hinting.{fit-distinct}
@@ -44,7 +44,7 @@ seek-requires c κs = search needs
 returns-2 : tie.Need-returns-2
 returns-2 c =
     let a = c .before .before .before .before .before .before .before .before .args in
-    c .seek .ensures ∙ rw (part-rest (a .book .now) 0, part-rest (a .atom .now) 0)
+    c .seek .ensures ∙ rw (part-to-end (a .book .now) 0, part-to-end (a .atom .now) 0)
 
 pub place-spec : {M : Type 1} → statement M
 place-spec =

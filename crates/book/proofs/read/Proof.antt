@@ -1,6 +1,7 @@
 -- `book::read` meets its contract: the lines passed are atoms, none of them twice, each with its mark, and their places are noted. Assumes nothing.
 use borrow.Author.Needs.{needs}
 use borrow.Author.Tests.{not-true, not-false}
+use borrow.Rule.Slice.PartAt.{part-to-end}
 use mathlib.Core.Path.{_≡_, sym, ap, _∙_}
 use mathlib.Core.Bool.{true, false, false≢true}
 use mathlib.Core.List.{List}
@@ -8,7 +9,7 @@ use Prim.Native.Nat.{ℕ, _+_, _-_, _≤_, _<_}
 use native.Mathlib.Omega.{arith}
 use lib.ListN.{length, take, drop, length-drop}
 use Rattle.text.specs.Text.{newline, find-in}
-use Rattle.text.specs.FieldLaws.{find-within, part-rest}
+use Rattle.text.specs.FieldLaws.{find-within}
 use Rattle.book.specs.Book.{fit}
 use Rattle.book.specs.Index.{Noted}
 use Rattle.book.specs.Reading.{Reading, start, count-within, size-more, short-more, no-newline, no-atom, stands-twice, goes-past, goes-on, too-few, too-many, is-book, is-noted}
@@ -26,7 +27,7 @@ refused n t x h = (sym h, λ e. absurd (false≢true e))
 
 -- where a line ends: within the text
 line-end : (t : List ℕ) (at f : ℕ) → f ≡ find-in newline (take (length t - at) (drop at t)) → at + f ≡ at + find-in newline (drop at t)
-line-end t at f h = ap (λ (k : ℕ). at + k) (h ∙ ap (find-in newline) (part-rest t at))
+line-end t at f h = ap (λ (k : ℕ). at + k) (h ∙ ap (find-in newline) (part-to-end t at))
 
 end-within : (t : List ℕ) (at f : ℕ) → at < length t → f ≡ find-in newline (take (length t - at) (drop at t)) → at + f ≤ length t
 end-within t at f h e = omega (arith, line-end t at f e, find-within newline (drop at t), length-drop at t)

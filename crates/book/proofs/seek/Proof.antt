@@ -1,5 +1,6 @@
 -- `book::seek` meets its contract: the place is as many lines on as were passed. Assumes nothing.
 use borrow.Author.Needs.{needs}
+use borrow.Rule.Slice.PartAt.{part-to-end}
 use mathlib.Core.Path.{_≡_, sym, _∙_}
 use mathlib.Core.Bool.{true, false}
 use mathlib.Core.List.{List}
@@ -9,7 +10,7 @@ use lib.ListN.{length, take, drop}
 use lib.Seq.{length-take-le}
 use Rattle.tokens.specs.Reserved.{same}
 use Rattle.text.specs.Text.{newline, find-in}
-use Rattle.text.specs.FieldLaws.{find-within, part-rest}
+use Rattle.text.specs.FieldLaws.{find-within}
 use Rattle.book.specs.Book.{lines, place-of}
 use Rattle.book.specs.LineLaws.{lines-first, lines-none}
 use Rattle.book.proofs.seek.Statement.{statement}
@@ -37,7 +38,7 @@ module _ (a t : List ℕ) (e : ℕ) (at-end : e ≡ find-in newline t) (more : e
   unfolding place-of
   there h =
       let k : suc e ≡ e + 1 = omega arith in
-      rw (part-rest t (e + 1), lines-first t (omega arith), ← at-end, h, k)
+      rw (part-to-end t (e + 1), lines-first t (omega arith), ← at-end, h, k)
 
 loop-holds : tie.Need-loop-holds Inv-loop μ-loop
 loop-holds c = search needs

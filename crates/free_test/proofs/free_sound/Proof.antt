@@ -7,9 +7,9 @@ use mathlib.Core.Bool.{_&&_}
 use native.Mathlib.Omega.{arith}
 use lib.ListN.{length}
 use borrow.Author.Tests.{eq-eqb, ne-eqb, le-leb, lt-leb}
+use borrow.Rule.Slice.PartAt.{part-to-end}
 use Rattle.nodes.specs.Sets.{node-limit}
 use Rattle.free_test.specs.WireTests.{all-zero, free-sound}
-use Rattle.free_test.specs.Below.{tail-part}
 use Rattle.free_test.specs.Loose.{loose-lowest, none-loose}
 use Rattle.free_test.proofs.free_sound.Statement.{statement}
 use Rattle.free_test.proofs.free_sound.Tie as tie
@@ -80,7 +80,7 @@ returns-5 c =
       le-leb (a .n) node-limit (omega arith),
     )
     (ap₂ _&&_
-    (ap₂ _&&_ (c .before .before .before .own-free .ensures) (c .before .all-zero2 .ensures ∙ ap all-zero (tail-part (a .n) (a .free .now))))
+    (ap₂ _&&_ (c .before .before .before .own-free .ensures) (c .before .all-zero2 .ensures ∙ ap all-zero (part-to-end (a .free .now) (a .n))))
     (c .own-lowest .ensures)
     ∙ loose-lowest (a .free .now) (omega arith) (a .links .now) (a .loose) (a .n) (omega arith))
 

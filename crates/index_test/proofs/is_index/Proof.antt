@@ -1,6 +1,7 @@
 -- `index_test::is_index` meets its contract: as many rows as the table has names, and zeros behind them. Assumes nothing.
 use borrow.Author.Needs.{needs}
 use borrow.Author.Tests.{not-true, not-false}
+use borrow.Rule.Slice.PartAt.{part-to-end}
 use mathlib.Core.Path.{_≡_, refl, sym, ap, _∙_}
 use mathlib.Core.Bool.{Bool, true, false, _&&_}
 use Prim.Native.Nat.{_*_, _≤_}
@@ -9,7 +10,6 @@ use lib.ListN.{length, drop}
 use Rattle.semantics.specs.Sizes.{names-per-group, row-words}
 use Rattle.semantics.specs.Test.{same}
 use Rattle.free_test.specs.WireTests.{all-zero}
-use Rattle.free_test.specs.Below.{tail-part}
 use Rattle.place.specs.Sound.{here}
 use Rattle.indexes.specs.Index.{walk, index-of-table}
 use Rattle.indexes.specs.Flat.{read-rows}
@@ -34,7 +34,7 @@ decided c zero is =
     let p = n .before .before .before in
     let index = p .args .index .now in
     let zeros : all-zero (drop (row-words * n .names-total .result) index) ≡ zero =
-    ap all-zero (sym (tail-part (row-words * n .names-total .result) index)) ∙ sym (c .all-zero .ensures) ∙ is in
+    ap all-zero (sym (part-to-end index (row-words * n .names-total .result))) ∙ sym (c .all-zero .ensures) ∙ is in
     rw zeros at (index-verdict (p .args .t .now) index (n .names-total .result) (p .pre .1 .0) (p .pre .1 .1) (n .names-total .ensures))
 
 names-total-requires : tie.Need-names-total-requires

@@ -1,8 +1,8 @@
 -- `launch_file::next_pair` meets its contract: what stands in the list decides. Assumes nothing.
 use borrow.Author.Needs.{needs}
+use borrow.Rule.Slice.PartAt.{part-to-end}
 use mathlib.Core.Path.{_≡_, sym, _∙_}
 use native.Mathlib.Omega.{arith}
-use Rattle.tokens.specs.Parts.{part-whole}
 use Rattle.walk.specs.Walk.{entry-at}
 use Rattle.launch_file.specs.Pairs.{next-stops, next-pairs, next-closed, next-missing, closed-within}
 use Rattle.launch_file.proofs.next_pair.Statement.{statement}
@@ -10,7 +10,7 @@ use Rattle.launch_file.proofs.next_pair.Tie as tie
 
 -- what is read of the whole part is read of the text
 stands : (c : tie.After-entry-at) → let a = c .before .before .before .before .args in entry-at (a .text .now) (a .at) (a .begun) ≡ c .entry-at .result
-stands c = sym (c .entry-at .ensures ∙ rw (part-whole (c .before .before .before .before .args .text .now)))
+stands c = sym (c .entry-at .ensures ∙ rw (part-to-end (c .before .before .before .before .args .text .now) 0))
 
 sub-entry-at : tie.Need-sub-entry-at
 sub-entry-at c = search needs
@@ -68,7 +68,7 @@ returns-2 c =
     let n = c .before .before .before .before in
     let e = n .before .before in
     let a = e .before .before .before .before .args in
-    next-pairs _ _ _ _ _ _ (stands e ∙ n .n .given .1) _ (rw (part-whole (a .text .now), part-whole (a .own .now)) at (c .pair-at .ensures))
+    next-pairs _ _ _ _ _ _ (stands e ∙ n .n .given .1) _ (rw (part-to-end (a .text .now) 0, part-to-end (a .own .now) 0) at (c .pair-at .ensures))
 
 returns-3 : tie.Need-returns-3
 returns-3 c = next-stops _ _ _ _ _ _ (stands (c .before .before .before) ∙ c .before .p .given .1)

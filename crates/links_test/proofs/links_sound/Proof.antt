@@ -7,9 +7,9 @@ use mathlib.Core.Bool.{_&&_}
 use native.Mathlib.Omega.{arith}
 use lib.ListN.{length}
 use borrow.Author.Tests.{eq-eqb, ne-eqb, le-leb, lt-leb}
+use borrow.Rule.Slice.PartAt.{part-to-end}
 use Rattle.nodes.specs.Sets.{node-limit}
 use Rattle.free_test.specs.WireTests.{all-zero, links-sound}
-use Rattle.free_test.specs.Below.{tail-part}
 use Rattle.links_test.specs.Mutual.{whole-mutual}
 use Rattle.links_test.proofs.links_sound.Statement.{statement}
 use Rattle.links_test.proofs.links_sound.Tie as tie
@@ -55,7 +55,7 @@ returns-3 c =
     rw (eq-eqb (length (a .links .now)) node-limit (omega arith), le-leb (a .n) node-limit (omega arith))
     (ap₂ _&&_
     (ap₂ _&&_ (c .before .before .before .before .own-linked .ensures)
-    (c .before .before .all-zero .ensures ∙ ap all-zero (tail-part (a .n) (a .links .now))))
+    (c .before .before .all-zero .ensures ∙ ap all-zero (part-to-end (a .links .now) (a .n))))
     (c .pairs-mutual .ensures))
 
 returns-4 : tie.Need-returns-4
@@ -67,7 +67,7 @@ returns-4 c =
     rw (eq-eqb (length links) node-limit long, le-leb (a .n) node-limit (omega arith))
     (ap₂ _&&_
     (ap₂ _&&_ (c .before .before .before .before .own-linked .ensures)
-    (c .before .before .all-zero .ensures ∙ ap all-zero (tail-part (a .n) links)))
+    (c .before .before .all-zero .ensures ∙ ap all-zero (part-to-end links (a .n))))
     (c .turned-mutual .ensures)
     ∙ whole-mutual links (a .n) long (omega arith))
 

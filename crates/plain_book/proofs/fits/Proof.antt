@@ -1,6 +1,7 @@
 -- `plain_book::fits` meets its contract: the lines passed are atoms, none of them twice. Assumes nothing.
 use borrow.Author.Needs.{needs}
 use borrow.Author.Tests.{lt-ltb, le-ltb, lt-leb, le-leb}
+use borrow.Rule.Slice.PartAt.{part-to-end}
 use mathlib.Core.Path.{_≡_, sym, ap, _∙_}
 use mathlib.Core.Logic.{⊎-elim}
 use mathlib.Core.Bool.{true, false, _&&_, and-false}
@@ -13,7 +14,7 @@ use lib.Seq.{length-take-le}
 use Rattle.nodes.specs.Bools.{by-lt}
 use Rattle.tokens.specs.Reserved.{among}
 use Rattle.text.specs.Text.{newline, find-in}
-use Rattle.text.specs.FieldLaws.{find-within, part-rest}
+use Rattle.text.specs.FieldLaws.{find-within}
 use Rattle.book.specs.Book.{longest-atom, group-atoms, fit, place-of}
 use Rattle.book.specs.PlaceLaws.{place-among}
 use Rattle.book.specs.Reading.{count-within, no-newline, no-atom, stands-twice, too-few, too-many, is-book}
@@ -29,7 +30,7 @@ abbrev μ-loop : tie.MeasureT-loop
 
 -- where a line ends: within the text
 line-end : (t : List ℕ) (at f : ℕ) → f ≡ find-in newline (take (length t - at) (drop at t)) → at + f ≡ at + find-in newline (drop at t)
-line-end t at f h = ap (λ (k : ℕ). at + k) (h ∙ ap (find-in newline) (part-rest t at))
+line-end t at f h = ap (λ (k : ℕ). at + k) (h ∙ ap (find-in newline) (part-to-end t at))
 
 end-within : (t : List ℕ) (at f : ℕ) → at < length t → f ≡ find-in newline (take (length t - at) (drop at t)) → at + f ≤ length t
 end-within t at f h e = omega (arith, line-end t at f e, find-within newline (drop at t), length-drop at t)

@@ -1,6 +1,7 @@
 -- `text::field` meets its contract: field k of s is field `left` of what is left of it.
 -- Assumes nothing.
 use borrow.Author.Needs.{needs}
+use borrow.Rule.Slice.PartAt.{part-to-end}
 use mathlib.Core.Path.{_≡_, sym, ap, _∙_}
 use mathlib.Core.Logic.{⊎-elim}
 use mathlib.Core.List.{List}
@@ -11,7 +12,7 @@ use lib.Seq.{length-take-le, take-all}
 use Rattle.nodes.specs.Bools.{by-lt}
 use Rattle.text.specs.Text.{space, find-in, fields}
 use Rattle.text.specs.Text.{field}
-use Rattle.text.specs.FieldLaws.{find-within, part-rest, fields-first, fields-last}
+use Rattle.text.specs.FieldLaws.{find-within, fields-first, fields-last}
 use Rattle.text.proofs.field.Statement.{statement}
 use Rattle.text.proofs.field.Tie as tie
 
@@ -24,7 +25,7 @@ abbrev μ-loop : tie.MeasureT-loop
 -- no space is left in t, and a field behind one is asked for
 past : (m : ℕ) (t : List ℕ) (e : ℕ) → 0 < m → e ≡ find-in space t → length t ≤ e → take (length t - e) (drop e t) ≡ field m (fields t)
 past zero t e p q l = absurd (omega arith)
-past (suc m) t e p q l = part-rest t e ∙ drop-of-length-le t l ∙ sym (ap (field (suc m)) (fields-last t (omega arith)))
+past (suc m) t e p q l = part-to-end t e ∙ drop-of-length-le t l ∙ sym (ap (field (suc m)) (fields-last t (omega arith)))
 
 -- one space is passed
 passed : (m : ℕ) (t : List ℕ) (e : ℕ) → 0 < m → e ≡ find-in space t → e < length t → field m (fields t) ≡ field (m - 1) (fields (take (length t - (e + 1)) (drop (e + 1) t)))
@@ -32,7 +33,7 @@ passed zero t e p q l = absurd (omega arith)
 passed (suc m) t e p q l =
     let a : suc m - 1 ≡ m = omega arith in
     let b : e + 1 ≡ suc (find-in space t) = omega arith in
-    ap (field (suc m)) (fields-first t (omega arith)) ∙ rw (part-rest, a, b)
+    ap (field (suc m)) (fields-first t (omega arith)) ∙ rw (part-to-end, a, b)
 
 -- none is left to pass
 none-left : (m : ℕ) (t : List ℕ) (e : ℕ) → m ≤ 0 → e ≡ find-in space t → field m (fields t) ≡ take e t

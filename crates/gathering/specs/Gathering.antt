@@ -14,8 +14,8 @@ use Rattle.plan.specs.declared.Plan.the-variants.{Fits}
 
 -- a number is that of one of the first groups written
 unfoldable pub seen : List ℕ → ℕ → ℕ → Bool
-seen words zero m = false
-seen words (suc k) m = seen words k m || eqb (getD words (2 * k) 0) m
+seen numbers zero m = false
+seen numbers (suc k) m = seen numbers k m || eqb (getD numbers k 0) m
 
 -- the nodes from a place on are on the roster and make s of the set w, and behind their group is m
 pub record Noded (N : ℕ) (book t : List ℕ) (at w s m : ℕ) : Type 0 where

@@ -8,7 +8,7 @@ use native.Mathlib.Omega.{arith}
 use borrow.Author.Tests.{ltb-true, ltb-false, lt-leb, eq-eqb, ne-eqb}
 use lib.Dec.{eqb, ltb}
 use lib.Pow.{pow-lt, pow-pos}
-use lib.ListN.{length, take, drop, getD, length-append, length-drop}
+use lib.ListN.{length, take, getD, length-append}
 use lib.Seq.{getD-take, getD-append-add}
 use Rattle.nodes.specs.Sets.{node-limit, has, beyond, empty, single, with-node}
 use Rattle.nodes.specs.SetLaws.{has-none, with-node-in, has-with-node, union-lt}
@@ -17,15 +17,15 @@ use Rattle.tokens.specs.Reserved.{same, among}
 use Rattle.tokens.specs.Words.{same-eq, same-refl}
 use Rattle.grammar.specs.File.{Group}
 use Rattle.walk.specs.Groups.{groups}
-use Rattle.book.specs.Book.{lines, group-atoms, fit, place-of, node-atoms, group-atoms-of}
+use Rattle.book.specs.Book.{lines, fit, place-of, node-atoms, group-atoms-of}
 use Rattle.book.specs.PlaceLaws.{place-among}
-use Rattle.book.specs.Hinting.{fit-few}
 use Rattle.duplicates.specs.Duplicates.{covered, named, kept, clash}
 use Rattle.duplicates.specs.Names.{both, neither, apart, apart-at, kept-apart}
 use Rattle.plan.specs.Plan.{number-of, set-with, set-of, listed, all-listed, plan-words, fitting, verdict}
-use Rattle.plan.specs.Looked.{fit-nodes}
+use Rattle.plan.specs.Looked.{entered, fit-nodes, few-atoms, entered-told}
 use Rattle.plan.specs.Turns.{all-listed-append, plan-words-append}
 use Rattle.plan.specs.Peopled.{some-node, peopled, groups-peopled, kept-peopled}
+use Rattle.plan.specs.declared.Entered.the-variants as Entered
 use Rattle.plan.specs.declared.Plan.the-variants.{Clash, Unknown, TooMany, Fits}
 
 -- a group has the number m
@@ -61,6 +61,17 @@ module _ (N : ℕ) (book : List ℕ) where
   listed-place : (g : Group) → listed N book g ≡ true → place-of (g .name) (group-atoms-of N book) < length (group-atoms-of N book)
   listed-place g h =
       ltb-true _ _ (place-among (g .name) (group-atoms-of N book) ∙ both (among (group-atoms-of N book) (g .name)) (covered (g .nodes) (node-atoms N book)) h .0)
+
+  -- the number of a group in the book has its range
+  number-high : fit N book ≡ true → (g : Group) → listed N book g ≡ true → number-of N book g < group-names
+  number-high fits g h = omega (arith, listed-place g h, few-atoms N book fits)
+
+  -- so has that of a group that was looked up
+  pub entered-high : fit N book ≡ true → (w : List ℕ) (ws : List (List ℕ)) (number s : ℕ) → Entered.Group number s ≡ entered N book w ws → number < group-names
+  entered-high fits w ws number s e =
+      let g : Group = record { name = w; nodes = ws } in
+      let u = entered-told N book g (Entered.Group number s) e in
+      omega (arith, u .1, number-high fits g (u .0))
 
   -- groups of other names have other numbers
   numbered-new : (ks : List Group) (g : Group) → all-listed N book ks ≡ true → named ks (g .name) ≡ false → numbered N book ks (number-of N book g) ≡ false
@@ -176,12 +187,11 @@ module _ (N : ℕ) (book : List ℕ) (fits : fit N book ≡ true) (small : N ≤
       let named = apart-at ks g gs (ap apart (sym e) ∙ kept-apart (groups t at)) .0 in
       let on = both (among (group-atoms-of N book) (g .name)) (covered (g .nodes) (node-atoms N book)) here .1 in
       let size = fit-nodes N book fits in
-      let place = listed-place N book g here in
       let some = peopled-at ks g gs (ap peopled (sym e) ∙ kept-peopled (groups t at) (groups-peopled t at)) in
       let below = set-below N small (node-atoms N book) size (g .nodes) 0 on (pow-pos N) in
       record {
         low = omega arith;
-        high = omega (arith, fit-few N book fits, length-drop N (lines book));
+        high = number-high N book fits g here;
         new = numbered-new N book ks g before named;
         some = set-some N small (node-atoms N book) size (g .nodes) on some;
         within = lt-leb (2 ^ N) (set-of N book g) below;

@@ -3,17 +3,19 @@ use mathlib.Core.Path.{_≡_, refl, sym, _∙_}
 use mathlib.Core.Bool.{Bool, true, false, cond}
 use mathlib.Core.List.{List, [], _∷_}
 use Prim.Native.Nat.{ℕ, suc, _+_, _*_, _≤_, _<_}
+use native.Mathlib.Omega.{arith}
 use borrow.Author.Tests.{lt-ltb, le-ltb}
 use lib.Dec.{ltb}
-use lib.ListN.{length, set}
+use lib.ListN.{length, set, length-drop}
 use lib.Seq.{length-take-le}
+use Rattle.pairs.specs.Woven.{woven, woven-length, woven-set}
 use Rattle.nodes.specs.Sets.{with-node}
 use Rattle.semantics.specs.Sizes.{group-limit}
 use Rattle.tokens.specs.Reserved.{among}
 use Rattle.grammar.specs.File.{Group}
-use Rattle.book.specs.Book.{lines, fit, place-of, node-atoms}
+use Rattle.book.specs.Book.{lines, group-atoms, fit, place-of, node-atoms, group-atoms-of}
 use Rattle.book.specs.PlaceLaws.{place-among}
-use Rattle.book.specs.Hinting.{fit-enough}
+use Rattle.book.specs.Hinting.{fit-enough, fit-few}
 use Rattle.plain_book.specs.Numbers.{number-in, number-none, number-some}
 use Rattle.duplicates.specs.Duplicates.{covered}
 use Rattle.plan.specs.Plan.{number-of, set-with, set-of, listed}
@@ -37,10 +39,27 @@ entered N book w ws =
 unfoldable pub put : List ℕ → ℕ → ℕ → ℕ → List ℕ
 put words k number s = cond (ltb k group-limit) (set (set words (2 * k) number) (2 * k + 1) s) words
 
--- ---- a book for n nodes has an atom for each
+-- ---- numbers and sets in runs of their own
 
+module _ (numbers sets : List ℕ) (p : length numbers ≡ group-limit) (q : length sets ≡ group-limit) where
+  -- two words for each group
+  pub woven-room : length (woven numbers sets) ≡ 2 * group-limit
+  woven-room = omega (arith, woven-length numbers sets (p ∙ sym q))
+
+  -- those of group k are written
+  pub woven-put : (k number s : ℕ) → k < group-limit → woven (set numbers k number) (set sets k s) ≡ put (woven numbers sets) k number s
+  unfolding put
+  woven-put k number s l = rw (lt-ltb k group-limit l) (woven-set numbers sets k number s (p ∙ sym q) (omega arith))
+
+-- ---- the atoms of a book for n nodes
+
+-- it has an atom for each
 pub fit-nodes : (n : ℕ) (book : List ℕ) → fit n book ≡ true → length (node-atoms n book) ≡ n
 fit-nodes n book h = length-take-le n (lines book) (fit-enough n book h)
+
+-- and so many for groups at most
+pub few-atoms : (n : ℕ) (book : List ℕ) → fit n book ≡ true → length (group-atoms-of n book) ≤ group-atoms
+few-atoms n book h = omega (arith, fit-few n book h, length-drop n (lines book))
 
 -- ---- the nodes of a group, one after another
 

@@ -42,7 +42,7 @@ module _ (words : List ℕ) (k number s : ℕ) where
       go true = simp length-set
       go false = refl
 
-  put-more : length words ≡ 2 * group-limit → k < group-limit → take (2 * (k + 1)) (put words k number s) ≡ take (2 * k) words ++ (number ∷ s ∷ [])
+  pub put-more : length words ≡ 2 * group-limit → k < group-limit → take (2 * (k + 1)) (put words k number s) ≡ take (2 * k) words ++ (number ∷ s ∷ [])
   unfolding put
   put-more room l =
       let e : 2 * (k + 1) ≡ suc (2 * k + 1) = omega arith in

@@ -9,10 +9,10 @@ use Rattle.gathering.proofs.seen.Statement.{statement}
 use Rattle.gathering.proofs.seen.Tie as tie
 
 abbrev Inv-loop : tie.InvT-loop
-Inv-loop words count number i₀ found₀ i found = (i ≤ count) × (found ≡ seen words i number)
+Inv-loop numbers count number i₀ found₀ i found = (i ≤ count) × (found ≡ seen numbers i number)
 
 abbrev μ-loop : tie.MeasureT-loop
-μ-loop words count number i₀ found₀ i found = count - i
+μ-loop numbers count number i₀ found₀ i found = count - i
 
 loop-holds : tie.Need-loop-holds Inv-loop μ-loop
 unfolding seen
@@ -20,9 +20,6 @@ loop-holds c = search needs
 
 mul-found : tie.Need-mul-found Inv-loop μ-loop
 mul-found c = search needs
-
-mul-found-2 : tie.Need-mul-found-2 Inv-loop μ-loop
-mul-found-2 c = search needs
 
 shared-slice-read-found : tie.Need-shared-slice-read-found Inv-loop μ-loop
 shared-slice-read-found c = search needs
@@ -50,7 +47,6 @@ seen-spec =
     μ-loop
     loop-holds
     mul-found
-    mul-found-2
     shared-slice-read-found
     add-i
     loop-less

@@ -34,7 +34,7 @@ clashes-requires c κs = search needs
 
 returns : tie.Need-returns
 returns c =
-    let s = c .before .before .before .before .before .before .args in
+    let s = c .before .before .before .before .before .before .before .args in
     (sym (clashed (s .n) _ _ _ _ (c .before .before .line .ensures) _ (c .before .clashes .ensures) (c .if1 .taken)), λ i h. absurd (let z : _≡_ {A = ℕ} 0 1 = cc in omega arith))
 
 fitted-requires : tie.Need-fitted-requires
@@ -43,10 +43,14 @@ fitted-requires c κs = search needs
 same-length : tie.Need-same-length
 same-length c = search needs
 
+same-length-2 : tie.Need-same-length-2
+same-length-2 c = search needs
+
 returns-2 : tie.Need-returns-2
 returns-2 c =
-    let k = c .before .before in
-    let u = unclashed _ _ _ _ _ (k .before .before .before .before .line .ensures) _ (k .before .before .before .clashes .ensures) (k .before .before .if1 .left) in
+    let k = c .before .before .before .before in
+    let s = k .before .before .before in
+    let u = unclashed _ _ _ _ _ (s .before .before .line .ensures) _ (s .before .clashes .ensures) (s .if1 .left) in
     (k .fitted .ensures .0 ∙ sym u, k .fitted .ensures .1)
 
 pub plan-of-spec : {M : Type 1} → statement M
@@ -58,4 +62,5 @@ plan-of-spec =
     returns
     fitted-requires
     same-length
+    same-length-2
     returns-2)

@@ -22,24 +22,22 @@ use Rattle.semantics.specs.FirstReason.{first}
 use Rattle.semantics.specs.Soundness.{Sound}
 use Rattle.semantics.specs.Call.{opening}
 use Rattle.semantics.specs.Calls.{calls-keep-sound, opening-gives-sound}
-use Rattle.entries.specs.Pids.{half-word}
 use Rattle.semantics.specs.State as State
 use Rattle.semantics.specs.Table.{state-of}
-use Rattle.creating.specs.Creating.{narrow}
 use Rattle.creating.specs.Creations.{makeable, each-made, all-there}
 use Rattle.creating.specs.NoneRefused.{none-refused-opened, groups-there}
 use Rattle.grammar.specs.File.{Group, Outcome, taken, refused, outcome}
 use Rattle.book.specs.Book.{lines, fit}
 use Rattle.duplicates.specs.Duplicates.{kept, clash}
 use Rattle.duplicates.specs.Names.{both, kept-apart}
-use Rattle.plan.specs.Plan.{number-of, listed, all-listed, plan-words}
+use Rattle.plan.specs.Plan.{listed, all-listed, plan-words}
 use Rattle.plan.specs.Peopled.{kept-peopled}
 use Rattle.published.specs.Refusals.{Lowest}
 use Rattle.published.specs.LowestReason.{first-lowest}
 use Rattle.launch.specs.Launch.{Launch, found, no-file, launch-tests, place-of-refusal, made, launch}
-use Rattle.launch.specs.Launches.{In-order, opened-ok, words-narrow, words-make}
+use Rattle.launch.specs.Launches.{In-order, opened-ok, words-make}
 use Rattle.launch.specs.TakenGroups.{taken-peopled}
-use Rattle.launch.specs.Makeable.{two-each, set-below, words-makeable}
+use Rattle.launch.specs.Makeable.{two-each, number-below, set-below, words-makeable}
 
 -- the reason that is given is the one of lowest rank that holds
 pub launch-lowest : (run N hidden start : ℕ) (book : List ℕ) (o : Outcome)
@@ -48,15 +46,14 @@ launch-lowest run N hidden start book o = first-lowest 0 (launch-tests run N hid
 
 -- groups of the book are made on a sound table, which stays so
 made-sound : (N : ℕ) (book : List ℕ) → fit N book ≡ true → N ≤ node-limit → (gs : List Group) (t : List ℕ) → all-listed N book gs ≡ true
-    → narrow (plan-words N book gs) ≡ true → Sound names-per-group t → Sound names-per-group (made N book gs t)
-unfolding made plan-words narrow all-listed
-made-sound N book b few [] t a n s = s
-made-sound N book b few (g ∷ gs) t a n s =
+    → Sound names-per-group t → Sound names-per-group (made N book gs t)
+unfolding made all-listed
+made-sound N book b few [] t a s = s
+made-sound N book b few (g ∷ gs) t a s =
     let p = both (listed N book g) (all-listed N book gs) a in
-    let q = both (ltb (number-of N book g) half-word) (narrow (plan-words N book gs)) n in
     let m : 2 ^ N ≤ 2 ^ node-limit = pow-mono few in
-    made-sound N book b few gs _ (p .1) (q .1)
-    (calls-keep-sound 0 _ _ t (ltb-true (number-of N book g) half-word (q .0), omega (arith, set-below N book b few g (p .0))) s)
+    made-sound N book b few gs _ (p .1)
+    (calls-keep-sound 0 _ _ t (omega (arith, number-below N book b few g (p .0)), omega (arith, set-below N book b few g (p .0))) s)
 
 -- what is a file is taken with its groups
 is-taken : (o : Outcome) → no-file o ≡ false → o ≡ taken (found o)
@@ -160,7 +157,7 @@ module _ (N hidden start : ℕ) (book file t : List ℕ) where
     launch-sound =
         let w = through in
         rw made-table
-        (made-sound N book (w .booked) (w .order .opens .few) (kept (found (outcome file))) _ (w .known) (words-narrow N book (w .booked) _ (w .known))
+        (made-sound N book (w .booked) (w .order .opens .few) (kept (found (outcome file))) _ (w .known)
         (opening-gives-sound N hidden t (opened-ok N hidden t (w .order .opens))))
 
     -- its words can be made

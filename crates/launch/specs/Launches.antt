@@ -1,12 +1,12 @@
 -- What a launch is, test by test, and after the plan of its groups. Assumes nothing.
 use mathlib.Core.Path.{_≡_, refl, sym, ap, _∙_}
-use mathlib.Core.Bool.{Bool, true, false, not, _&&_, _||_, cond, and-eq-true-iff, true≢false, false≢true}
+use mathlib.Core.Bool.{Bool, true, false, not, _||_, cond, true≢false, false≢true}
 use mathlib.Core.List.{List, [], _∷_}
-use Prim.Native.Nat.{ℕ, _+_, _*_, _≤_, _<_}
+use Prim.Native.Nat.{ℕ, _*_, _≤_, _<_}
 use native.Mathlib.Omega.{arith}
-use lib.Dec.{eqb, leb, ltb}
-use lib.ListN.{length, getD, take, length-drop}
-use borrow.Author.Tests.{eq-eqb, ne-eqb, lt-ltb, le-ltb, leb-true, ltb-true, ltb-false}
+use lib.Dec.{eqb, ltb}
+use lib.ListN.{length, getD, take}
+use borrow.Author.Tests.{eq-eqb, ne-eqb, lt-ltb, le-ltb, ltb-false}
 use Rattle.nodes.specs.NodeSets.{node-limit, beyond}
 use Rattle.answers.specs.Answers.{refuses, answer-of}
 use Rattle.answers.specs.declared.Answer.{Answer}
@@ -19,23 +19,32 @@ use Rattle.semantics.specs.Call.{opening}
 use Rattle.semantics.specs.Calls.{opening-gives-sound}
 use Rattle.semantics.specs.Agree.{sound-iff}
 use Rattle.semantics.specs.Test.{sound}
-use Rattle.creating.specs.Creating.{created, narrow}
-use Rattle.entries.specs.Pids.{half-word}
-use Rattle.tokens.specs.Reserved.{among}
+use Rattle.pairs.specs.Woven.{woven, woven-take}
+use Rattle.creating.specs.Creating.{created}
 use Rattle.grammar.specs.File.{Group, Outcome, taken, refused, outcome}
 use Rattle.walk.specs.Groups.{groups}
 use Rattle.launch_file.specs.Reading.{from-groups, read-as}
 use Rattle.launch_file.specs.declared.Reading.{Reading}
 use Rattle.launch_file.specs.declared.Reading.the-variants as Reading
-use Rattle.book.specs.Book.{group-atoms, lines, fit, place-of, node-atoms, group-atoms-of}
-use Rattle.book.specs.PlaceLaws.{place-among}
-use Rattle.book.specs.Hinting.{fit-few}
-use Rattle.duplicates.specs.Duplicates.{covered, kept, clash}
+use Rattle.book.specs.Book.{lines, fit}
+use Rattle.duplicates.specs.Duplicates.{kept, clash}
 use Rattle.plan.specs.declared.Plan.{Plan}
 use Rattle.plan.specs.declared.Plan.the-variants.{Clash, Unknown, TooMany, Fits}
-use Rattle.plan.specs.Plan.{number-of, listed, all-listed, plan-words, fitting, verdict}
+use Rattle.plan.specs.Plan.{all-listed, plan-words, fitting, verdict}
 use Rattle.gathering.specs.Gathering.{Planned}
+use Rattle.launch.specs.declared.Verdict.{Verdict}
+use Rattle.launch.specs.declared.Verdict.the-variants.{Through, No}
 use Rattle.launch.specs.Launch.{Launch, found, no-file, place-of-refusal, made, launch}
+
+-- the answer of a verdict
+abbrev pub answered : Verdict → Answer
+answered Through = answer-of Ok Done
+answered (No r p) = answer-of Error r
+
+-- and its place
+abbrev pub placed : Verdict → ℕ
+placed Through = 0
+placed (No r p) = p
 
 -- Error for a reason, at a place, and every word as it was
 abbrev pub refusal : Reason → ℕ → List ℕ → Launch
@@ -136,42 +145,27 @@ module _ (N hidden start : ℕ) (book file t : List ℕ) (k : In-order N hidden 
       unfolding verdict fitting
       planned = planned-by _ _ _ refl refl refl
 
--- the groups fit: so many as can be made, and all of their atoms are in the book
-pub record Fitting (N : ℕ) (book : List ℕ) (gs : List Group) (n : ℕ) : Type 0 where
-  pub many : n ≡ length gs
-  pub few : n ≤ group-limit
-  pub known : all-listed N book gs ≡ true
-
-pub fits : (N : ℕ) (book : List ℕ) (start : ℕ) (gs : List Group) (n : ℕ) → Fits n ≡ verdict N book start gs → Fitting N book (kept gs) n
+-- groups that fit are no more than can be made
+pub fits-few : (N : ℕ) (book : List ℕ) (start : ℕ) (gs : List Group) (n : ℕ) → Fits n ≡ verdict N book start gs → n ≤ group-limit
 unfolding verdict fitting
-fits N book start gs n = go (clash gs (getD (lines book) start [])) (all-listed N book (kept gs)) refl (ltb group-limit (length (kept gs))) refl
+fits-few N book start gs n = go (clash gs (getD (lines book) start [])) (all-listed N book (kept gs)) (ltb group-limit (length (kept gs))) refl
   where
-    go : (x y : Bool) → all-listed N book (kept gs) ≡ y → (z : Bool) → ltb group-limit (length (kept gs)) ≡ z
-        → Fits n ≡ cond x Clash (cond (not y) Unknown (cond z TooMany (Fits (length (kept gs))))) → Fitting N book (kept gs) n
-    go true y a z l e = absurd (let q : _≡_ {A = ℕ} 0 1 = cc in omega arith)
-    go false false a z l e = absurd (let q : _≡_ {A = ℕ} 0 1 = cc in omega arith)
-    go false true a true l e = absurd (let q : _≡_ {A = ℕ} 0 1 = cc in omega arith)
-    go false true a false l e = let q : n ≡ length (kept gs) = cc in record { many = q; few = omega (arith, ltb-false group-limit (length (kept gs)) l); known = a }
-
--- a book has so many group atoms at most
-few-atoms : (N : ℕ) (book : List ℕ) → fit N book ≡ true → length (group-atoms-of N book) ≤ group-atoms
-few-atoms N book b = omega (arith, fit-few N book b, length-drop N (lines book))
-
--- the numbers of groups that are in the book have 32 binary digits
-pub words-narrow : (N : ℕ) (book : List ℕ) → fit N book ≡ true → (gs : List Group) → all-listed N book gs ≡ true → narrow (plan-words N book gs) ≡ true
-unfolding narrow plan-words all-listed
-words-narrow N book b [] e = refl
-words-narrow N book b (g ∷ gs) e =
-    let p = and-eq-true-iff (listed N book g) (all-listed N book gs) .0 e in
-    let a : among (group-atoms-of N book) (g .name) ≡ true = and-eq-true-iff (among (group-atoms-of N book) (g .name)) (covered (g .nodes) (node-atoms N book)) .0 (p .0) .0 in
-    let l = ltb-true (place-of (g .name) (group-atoms-of N book)) (length (group-atoms-of N book)) (place-among (g .name) (group-atoms-of N book) ∙ a) in
-    rw (lt-ltb (number-of N book g) half-word (omega (arith, l, few-atoms N book b))) (words-narrow N book b gs (p .1))
+    go : (x y z : Bool) → ltb group-limit (length (kept gs)) ≡ z → Fits n ≡ cond x Clash (cond (not y) Unknown (cond z TooMany (Fits (length (kept gs))))) → n ≤ group-limit
+    go true y z l e = absurd (let q : _≡_ {A = ℕ} 0 1 = cc in omega arith)
+    go false false z l e = absurd (let q : _≡_ {A = ℕ} 0 1 = cc in omega arith)
+    go false true true l e = absurd (let q : _≡_ {A = ℕ} 0 1 = cc in omega arith)
+    go false true false l e = let q : n ≡ length (kept gs) = cc in omega (arith, ltb-false group-limit (length (kept gs)) l)
 
 -- the words of the plan make the groups
 pub words-make : (N : ℕ) (book : List ℕ) (gs : List Group) (t : List ℕ) → created (plan-words N book gs) t ≡ made N book gs t
 unfolding created plan-words made
 words-make N book [] t = refl
 words-make N book (g ∷ gs) t = words-make N book gs _
+
+-- and so do its first k numbers and sets, where they are those words
+runs-make : (N : ℕ) (book : List ℕ) (gs : List Group) (numbers sets : List ℕ) (k : ℕ) (t : List ℕ)
+    → take (2 * k) (woven numbers sets) ≡ plan-words N book gs → created (woven (take k numbers) (take k sets)) t ≡ made N book gs t
+runs-make N book gs numbers sets k t e = ap (λ ws. created ws t) (sym (woven-take numbers sets k) ∙ e) ∙ words-make N book gs t
 
 -- ---- what a function of the launch has to show
 
@@ -183,10 +177,15 @@ pub refuses-so : {l : Launch} {r : Reason} {p : ℕ} {t : List ℕ} {a : Answer}
 refuses-so e w = rw e (w .0, (w .1, refl))
 
 -- a launch that goes through makes the groups of the plan's words
-pub makes-so : (N hidden : ℕ) (book : List ℕ) (gs : List Group) (t words : List ℕ) {l : Launch} {a : Answer} {p : ℕ} {u : List ℕ}
+pub makes-so : (N hidden : ℕ) (book : List ℕ) (gs : List Group) (t numbers sets : List ℕ) (k : ℕ) {l : Launch} {u : List ℕ}
     → l ≡ record { answer = answer-of Ok Done; place = 0; table = made N book gs (opening N hidden t .table) }
-    → (a ≡ answer-of Ok Done) × (p ≡ 0) × (u ≡ created words (opening N hidden t .table)) → words ≡ plan-words N book gs → Tells l a p u
-makes-so N hidden book gs t words e w q = rw e (w .0, (w .1, w .2 ∙ rw q (words-make N book gs _)))
+    → u ≡ created (woven (take k numbers) (take k sets)) (opening N hidden t .table) → take (2 * k) (woven numbers sets) ≡ plan-words N book gs
+    → Tells l (answer-of Ok Done) 0 u
+makes-so N hidden book gs t numbers sets k e w q = rw e (refl, (refl, w ∙ runs-make N book gs numbers sets k _ q))
+
+-- what tells the same tells it too
+pub tells-so : {l : Launch} {a b : Answer} {p q : ℕ} {t : List ℕ} → (a ≡ b) × (p ≡ q) → Tells l b q t → Tells l a p t
+tells-so w h = (w .0 ∙ h .0, (w .1 ∙ h .1 .0, h .1 .1))
 
 -- what reading said of a file: its groups stand at a place, or it is refused there
 pub record Was-read (file : List ℕ) (whole : Bool) (place : ℕ) : Type 0 where
@@ -207,13 +206,14 @@ pub not-at-once : {N hidden : ℕ} {book file t : List ℕ} → At-once N hidden
 not-at-once = record { went-through = λ e. absurd (false≢true e); untouched = λ e. refl }
 
 -- what one walk gathered makes the table
-pub made-at-once : (N hidden : ℕ) (book file t : List ℕ) (g k e : ℕ) (words u : List ℕ) → Open N hidden t → fit N book ≡ true → outcome file ≡ taken (groups file g)
-    → Planned N book file g words k e → u ≡ created (take (2 * k) words) (opening N hidden t .table) → At-once N hidden book file t u true
-made-at-once N hidden book file t g k e words u o b w P c = record {
+pub made-at-once : (N hidden : ℕ) (book file t : List ℕ) (g k e : ℕ) (numbers sets u : List ℕ) → Open N hidden t → fit N book ≡ true
+    → outcome file ≡ taken (groups file g) → Planned N book file g (woven numbers sets) k e
+    → u ≡ created (woven (take k numbers) (take k sets)) (opening N hidden t .table) → At-once N hidden book file t u true
+made-at-once N hidden book file t g k e numbers sets u o b w P c = record {
   went-through = λ _ start known.
       planned N hidden start book file t (record { opens = o; known = known }) b (groups file g) w
       ∙ ap (by-plan N hidden book (groups file g) t) (P .fits start)
-      ∙ ap (λ v. record { answer = answer-of Ok Done; place = 0; table = v }) (sym (c ∙ rw (P .written) (words-make N book (kept (groups file g)) (opening N hidden t .table))));
+      ∙ ap (λ v. record { answer = answer-of Ok Done; place = 0; table = v }) (sym (c ∙ runs-make N book (kept (groups file g)) numbers sets k _ (P .written)));
   untouched = λ e. absurd (true≢false e);
 }
 

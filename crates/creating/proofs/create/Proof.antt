@@ -1,27 +1,24 @@
--- `creating::create` meets its contract: what is left to make grows less by two words a turn.
+-- `creating::create` meets its contract: what is left to make grows less by one s_group a turn.
 -- Assumes nothing.
 use borrow.Author.Needs.{needs}
 use mathlib.Core.Path.{refl, sym, _∙_}
-use Prim.Native.Nat.{_+_, _-_, _≤_}
+use Prim.Native.Nat.{_-_, _≤_}
 use native.Mathlib.Omega.{arith}
 use lib.ListN.{length}
 use Rattle.semantics.specs.Sizes.{names-per-group}
 use Rattle.semantics.specs.Agree.{test-regular}
-use Rattle.creating.specs.CreatingLaws.{To-make, number-narrow, makes, made-all}
+use Rattle.creating.specs.CreatingLaws.{To-make, makes, made-all}
 use Rattle.creating.proofs.create.Statement.{statement}
 use Rattle.creating.proofs.create.Tie as tie
 
 abbrev Inv-loop : tie.InvT-loop
-Inv-loop t₀ words i₀ t i = To-make words t₀ i t × (i ≤ length words)
+Inv-loop t₀ numbers sets i₀ t i = To-make numbers sets t₀ i t × (i ≤ length sets)
 
 abbrev μ-loop : tie.MeasureT-loop
-μ-loop t₀ words i₀ t i = length words - i
+μ-loop t₀ numbers sets i₀ t i = length sets - i
 
 loop-holds : tie.Need-loop-holds Inv-loop μ-loop
-loop-holds c = (record { whole = c .before .before .pre .1 .0; small = c .before .before .pre .1 .1; comes = refl }, omega arith)
-
-add-loop : tie.Need-add-loop Inv-loop μ-loop
-add-loop c = search needs
+loop-holds c = (record { whole = c .before .before .before .pre .1 .0; comes = refl }, omega arith)
 
 mul-s : tie.Need-mul-s Inv-loop μ-loop
 mul-s c = search needs
@@ -30,10 +27,7 @@ shared-slice-read-s : tie.Need-shared-slice-read-s Inv-loop μ-loop
 shared-slice-read-s c = search needs
 
 cast-s : tie.Need-cast-s Inv-loop μ-loop
-cast-s c = record { fits = number-narrow _ _ _ _ (c .before .before .loop .inv .0) (c .before .loop-test .taken) }
-
-add-set : tie.Need-add-set Inv-loop μ-loop
-add-set c = search needs
+cast-s c = record { fits = omega (arith, c .before .before .before .before .shared-slice-known .given (c .before .before .loop .i) .fits) }
 
 mul-set : tie.Need-mul-set Inv-loop μ-loop
 mul-set c = search needs
@@ -57,17 +51,19 @@ loop-less c = search needs
 
 loop-again : tie.Need-loop-again Inv-loop μ-loop
 loop-again c =
-    let at = c .before .before .before .before .before .before .before .before in (
-      makes _ _ _ _ (at .loop .inv .0) (c .before .before .before .before .before .before .before .loop-test .taken)
-          (c .before .before .before .before .before .before .shared-slice-known2 .given (at .loop .i + 1) .fits) (rw (c .before .before .before .before .lowest .ensures) at (c .before .before .new-s-group .ensures .1)),
+    let at = c .before .before .before .before .before .before .before .before in
+    let l = c .before .before .before .before .before .before .before .loop-test .taken in (
+      makes _ _ _ _ _ (at .loop .inv .0) (omega (arith, at .before .before .before .before .pre .1 .1)) l
+          (omega (arith, at .before .before .shared-slice-known .given (at .loop .i) .fits)) (at .before .shared-slice-known2 .given (at .loop .i) .fits)
+          (rw (c .before .before .before .before .lowest .ensures) at (c .before .before .new-s-group .ensures .1)),
       omega arith,
     )
 
 same-length : tie.Need-same-length Inv-loop μ-loop
-same-length c = test-regular names-per-group _ (c .before .loop .inv .0 .whole) .2 ∙ sym (c .before .before .before .before .pre .0)
+same-length c = test-regular names-per-group _ (c .before .loop .inv .0 .whole) .2 ∙ sym (c .before .before .before .before .before .pre .0)
 
 returns : tie.Need-returns Inv-loop μ-loop
-returns c = made-all _ _ _ _ (c .before .loop .inv .0) (omega (arith, c .loop-test .left))
+returns c = made-all _ _ _ _ _ (c .before .loop .inv .0) (omega (arith, c .before .before .before .before .before .pre .1 .1, c .loop-test .left))
 
 pub create-spec : {M : Type 1} → statement M
 create-spec =
@@ -76,11 +72,9 @@ create-spec =
     Inv-loop
     μ-loop
     loop-holds
-    add-loop
     mul-s
     shared-slice-read-s
     cast-s
-    add-set
     mul-set
     shared-slice-read-set
     lowest-requires

@@ -5,7 +5,7 @@ use mathlib.Core.Path.{sym, _∙_}
 use native.Mathlib.Omega.{arith}
 use lib.Seq.{length-take-le}
 use borrow.Author.Tests.{not-false}
-use Rattle.launch.specs.Launches.{fits, words-narrow, not-at-once, made-at-once}
+use Rattle.launch.specs.Launches.{fits-few, not-at-once, made-at-once}
 use Rattle.launch.proofs.at_once.Statement.{statement}
 use Rattle.launch.proofs.at_once.Tie as tie
 
@@ -24,8 +24,11 @@ slice-aggregate-gather c = search needs
 slice-aggregate-gather-2 : tie.Need-slice-aggregate-gather-2
 slice-aggregate-gather-2 c = search needs
 
+slice-aggregate-gather-3 : tie.Need-slice-aggregate-gather-3
+slice-aggregate-gather-3 c = search needs
+
 gather-requires : tie.Need-gather-requires
-gather-requires c κs = (c .before .before .before .before .fit .ensures .1 (not-false _ (c .before .before .if1 .left)), search needs)
+gather-requires c κs = (c .before .before .before .before .before .fit .ensures .1 (not-false _ (c .before .before .before .if1 .left)), search needs)
 
 enum-told : tie.Need-enum-told
 enum-told c = search needs
@@ -39,26 +42,20 @@ ended-requires c κs = search needs
 returns-2 : tie.Need-returns-2
 returns-2 c = not-at-once
 
-mul-used : tie.Need-mul-used
-mul-used c =
-    let P = c .before .before .before .before .before .before .gather .ensures _ _ (c .before .before .before .count .given .1) in
-    record { fits = omega (arith, fits _ _ 0 _ _ (sym (P .fits 0)) .few) }
-
-array-share-prefix-words : tie.Need-array-share-prefix-words
-array-share-prefix-words c =
-    let P = c .before .before .before .before .before .before .before .gather .ensures _ _ (c .before .before .before .before .count .given .1) in
-    omega (arith, fits _ _ 0 _ _ (sym (P .fits 0)) .few)
+array-share-prefix-numbers : tie.Need-array-share-prefix-numbers
+array-share-prefix-numbers c = omega (arith, fits-few _ _ 0 _ _ (sym (c .before .before .before .before .before .before .before .before .gather .ensures _ _ (c .before .before .before .before .count .given .1) .fits 0)))
 
 slice-aggregate-make : tie.Need-slice-aggregate-make
-slice-aggregate-make c =
-    let P = c .before .before .before .before .before .before .before .before .gather .ensures _ _ (c .before .before .before .before .before .count .given .1) in
-    sym (length-take-le _ _ (omega (arith, fits _ _ 0 _ _ (sym (P .fits 0)) .few)))
+slice-aggregate-make c = sym (length-take-le _ _ (omega (arith, fits-few _ _ 0 _ _ (sym (c .before .before .before .before .before .before .before .before .before .gather .ensures _ _ (c .before .before .before .before .before .count .given .1) .fits 0)))))
+
+array-share-prefix-sets : tie.Need-array-share-prefix-sets
+array-share-prefix-sets c = omega (arith, fits-few _ _ 0 _ _ (sym (c .before .before .before .before .before .before .before .before .before .gather .ensures _ _ (c .before .before .before .before .before .count .given .1) .fits 0)))
+
+slice-aggregate-make-2 : tie.Need-slice-aggregate-make-2
+slice-aggregate-make-2 c = sym (length-take-le _ _ (omega (arith, fits-few _ _ 0 _ _ (sym (c .before .before .before .before .before .before .before .before .before .before .gather .ensures _ _ (c .before .before .before .before .before .before .count .given .1) .fits 0)))))
 
 make-requires : tie.Need-make-requires
-make-requires c κs =
-    let P = c .before .before .before .before .before .before .before .before .gather .ensures _ _ (c .before .before .before .before .before .count .given .1) in
-    let b = sym (c .before .before .before .before .before .before .before .before .before .before .before .before .before .fit .ensures .0) ∙ not-false _ (c .before .before .before .before .before .before .before .before .before .before .before .if1 .left) in
-    (c .before .before .before .before .before .before .before .before .before .before .before .before .before .before .before .before .before .before .pre .0, rw (P .written) (words-narrow _ _ b _ (fits _ _ 0 _ _ (sym (P .fits 0)) .known)))
+make-requires c κs = (c .before .before .before .before .before .before .before .before .before .before .before .before .before .before .before .before .before .before .before .before .before .pre .0, sym (slice-aggregate-make (c .before)) ∙ slice-aggregate-make-2 c)
 
 returns-3 : tie.Need-returns-3
 returns-3 c = not-at-once
@@ -68,11 +65,10 @@ same-length c = search needs
 
 returns-4 : tie.Need-returns-4
 returns-4 c =
-    let P = c .before .before .before .before .before .before .before .before .before .before .before .gather .ensures _ _ (c .before .before .before .before .before .before .before .before .count .given .1) in
-    let a = c .before .before .before .before .before .before .before .before .before .before .before .before .before .before .before .before .before .before .before .before .before in
-    let b = sym (c .before .before .before .before .before .before .before .before .before .before .before .before .before .before .before .before .fit .ensures .0) ∙ not-false _ (c .before .before .before .before .before .before .before .before .before .before .before .before .before .before .if1 .left) in
-    let w = c .before .before .before .before .before .before .ended .ensures _ (P .past) (a .pre .1) (not-false _ (c .before .before .before .before .before .if2 .left)) in
-    made-at-once _ _ _ _ _ _ _ _ _ _ (a .pre .0) b w P (c .before .before .make .ensures .2)
+    let P = c .before .before .before .before .before .before .before .before .before .before .before .before .before .gather .ensures _ _ (c .before .before .before .before .before .before .before .before .before .count .given .1) in
+    let b = sym (c .before .before .before .before .before .before .before .before .before .before .before .before .before .before .before .before .before .before .before .fit .ensures .0) ∙ not-false _ (c .before .before .before .before .before .before .before .before .before .before .before .before .before .before .before .before .before .if1 .left) in
+    let w = c .before .before .before .before .before .before .before .ended .ensures _ (P .past) (c .before .before .before .before .before .before .before .before .before .before .before .before .before .before .before .before .before .before .before .before .before .before .before .before .pre .1) (not-false _ (c .before .before .before .before .before .before .if2 .left)) in
+    made-at-once _ _ _ _ _ _ _ _ _ _ _ (c .before .before .before .before .before .before .before .before .before .before .before .before .before .before .before .before .before .before .before .before .before .before .before .before .pre .0) b w P (c .before .before .make .ensures)
 
 pub at-once-spec : {M : Type 1} → statement M
 at-once-spec =
@@ -83,14 +79,16 @@ at-once-spec =
     returns
     slice-aggregate-gather
     slice-aggregate-gather-2
+    slice-aggregate-gather-3
     gather-requires
     enum-told
     enum-known-count
     ended-requires
     returns-2
-    mul-used
-    array-share-prefix-words
+    array-share-prefix-numbers
     slice-aggregate-make
+    array-share-prefix-sets
+    slice-aggregate-make-2
     make-requires
     returns-3
     same-length

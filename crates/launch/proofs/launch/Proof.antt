@@ -5,7 +5,7 @@ use borrow.Author.Needs.{needs}
 use mathlib.Core.Path.{sym, ap, _∙_}
 use mathlib.Core.Bool.{true≢false, false≢true}
 use Rattle.launch_file.specs.Reading.{fronted, read-as}
-use Rattle.launch.specs.Launches.{length-wrong, nobody, too-many, hidden-beyond, start-beyond, refuses-so, tells-through, read-whole, told-of}
+use Rattle.launch.specs.Launches.{length-wrong, nobody, too-many, hidden-beyond, start-beyond, refuses-so, tells-through, tells-so, read-whole, told-of}
 use Rattle.launch.proofs.launch.Statement.{statement}
 use Rattle.launch.proofs.launch.Tie as tie
 
@@ -58,6 +58,9 @@ judged-requires c κs = (
   record { is-file = λ e. absurd (false≢true e); is-none = λ e. c .before .before .before .before .front-of .ensures ∙ ap (fronted _) (c .before .before .p .given .1) },
 )
 
+told-requires : tie.Need-told-requires
+told-requires c κs = search needs
+
 enum-known-g : tie.Need-enum-known-g
 enum-known-g c = search needs
 
@@ -88,6 +91,9 @@ judged-requires-2 c κs = (
   record { is-file = λ e. absurd (false≢true e); is-none = λ e. (c .before .before .before .before .before .before .before .before .before .before .before .before .before .front-of .ensures ∙ ap (fronted _) (c .before .before .before .before .before .before .before .before .before .before .before .g .given .1)) ∙ c .before .before .before .before .rest-of .ensures .0 ∙ ap (read-as _) (c .before .before .p2 .given .1) },
 )
 
+told-requires-2 : tie.Need-told-requires-2
+told-requires-2 c κs = search needs
+
 enum-told : tie.Need-enum-told
 enum-told c = search needs
 
@@ -113,24 +119,27 @@ judged-requires-3 c κs = (
   record { is-file = λ e. read-whole _ _ _ _ (c .before .before .before .before .before .before .before .before .before .before .before .before .before .before .before .before .before .front-of .ensures ∙ ap (fronted _) (c .before .before .before .before .before .before .before .before .before .before .before .before .before .before .before .g .given .1)) (c .before .before .before .before .before .before .before .before .rest-of .ensures .0) (c .before .before .before .before .before .before .before .before .rest-of .ensures .1) (c .before .before .before .before .before .before .enum-told .given .1); is-none = λ e. absurd (true≢false e) },
 )
 
+told-requires-3 : tie.Need-told-requires-3
+told-requires-3 c κs = search needs
+
 same-length-3 : tie.Need-same-length-3
 same-length-3 c = search needs
 
 returns-8 : tie.Need-returns-8
-returns-8 c = c .before .before .judged .ensures
+returns-8 c = tells-so (c .told .ensures) (c .before .before .before .judged .ensures)
 
 same-length-4 : tie.Need-same-length-4
 same-length-4 c = search needs
 
 returns-9 : tie.Need-returns-9
-returns-9 c = told-of _ _ _ _ _ (c .before .before .before .before .before .before .before .before .before .before .before .at-once .ensures .untouched (c .before .before .before .before .before .before .before .before .if6 .left)) (c .before .before .judged2 .ensures)
+returns-9 c = told-of _ _ _ _ _ (c .before .before .before .before .before .before .before .before .before .before .before .before .at-once .ensures .untouched (c .before .before .before .before .before .before .before .before .before .if6 .left)) (tells-so (c .told2 .ensures) (c .before .before .before .judged2 .ensures))
 
 same-length-5 : tie.Need-same-length-5
 same-length-5 c = search needs
 
 returns-10 : tie.Need-returns-10
 returns-10 c =
-    told-of _ _ _ _ _ (c .before .before .before .before .before .before .before .at-once2 .ensures .untouched (c .before .before .before .before .if7 .left) ∙ c .before .before .before .before .before .before .before .before .before .before .before .before .before .before .before .at-once .ensures .untouched (c .before .before .before .before .before .before .before .before .before .before .before .before .if6 .left)) (c .before .before .judged3 .ensures)
+    told-of _ _ _ _ _ (c .before .before .before .before .before .before .before .before .at-once2 .ensures .untouched (c .before .before .before .before .before .if7 .left) ∙ c .before .before .before .before .before .before .before .before .before .before .before .before .before .before .before .before .at-once .ensures .untouched (c .before .before .before .before .before .before .before .before .before .before .before .before .before .if6 .left)) (tells-so (c .told3 .ensures) (c .before .before .before .judged3 .ensures))
 
 pub launch-spec : {M : Type 1} → statement M
 launch-spec =
@@ -150,6 +159,7 @@ launch-spec =
     front-of-requires
     enum-known-p
     judged-requires
+    told-requires
     enum-known-g
     at-once-requires
     through-requires
@@ -158,12 +168,14 @@ launch-spec =
     rest-of-requires
     enum-known-p-2
     judged-requires-2
+    told-requires-2
     enum-told
     at-once-requires-2
     through-requires-2
     same-length-2
     returns-7
     judged-requires-3
+    told-requires-3
     same-length-3
     returns-8
     same-length-4

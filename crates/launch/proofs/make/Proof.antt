@@ -15,20 +15,15 @@ open-requires c κs = search needs
 
 create-requires : tie.Need-create-requires
 create-requires c κs =
-    let a = c .before .before .before .before .before .before .before in
+    let a = c .before .before .before .before .before .before .before .before in
     let ok = ap (sound names-per-group) (c .before .before .before .«open» .ensures .1) ∙ opened-sound _ _ _ (a .pre .0) in
     (test-regular names-per-group _ ok .2, (ok, a .pre .1))
-
-through-requires : tie.Need-through-requires
-through-requires c κs = search needs
 
 same-length : tie.Need-same-length
 same-length c = search needs
 
 returns : tie.Need-returns
-returns c =
-    let o = c .before .before .before .before .before .before .before in
-    (c .through .ensures .0, c .through .ensures .1, c .before .before .before .create .ensures ∙ ap (created _) (o .«open» .ensures .1))
+returns c = c .before .before .create .ensures ∙ ap (created _) (c .before .before .before .before .before .before .«open» .ensures .1)
 
 pub make-spec : {M : Type 1} → statement M
-make-spec = tie.close (tie.spec open-requires create-requires through-requires same-length returns)
+make-spec = tie.close (tie.spec open-requires create-requires same-length returns)

@@ -18,7 +18,7 @@ woven-length [] ys e = refl
 woven-length (a ∷ xs) [] e = absurd (omega arith)
 woven-length (a ∷ xs) (b ∷ ys) e = omega (arith, woven-length xs ys (omega arith))
 
--- the words of the place i stand at 2 i and behind it
+-- the first word of the place i stands at 2 i
 pub woven-first : (xs ys : List ℕ) (i : ℕ) → length xs ≡ length ys → i < length xs → getD (woven xs ys) (2 * i) 0 ≡ getD xs i 0
 unfolding woven
 woven-first [] ys i e l = absurd (omega arith)
@@ -27,15 +27,6 @@ woven-first (a ∷ xs) (b ∷ ys) zero e l = refl
 woven-first (a ∷ xs) (b ∷ ys) (suc i) e l =
     let at : 2 * suc i ≡ suc (suc (2 * i)) = omega arith in
     rw at (woven-first xs ys i (omega arith) (omega arith))
-
-pub woven-second : (xs ys : List ℕ) (i : ℕ) → length xs ≡ length ys → i < length xs → getD (woven xs ys) (2 * i + 1) 0 ≡ getD ys i 0
-unfolding woven
-woven-second [] ys i e l = absurd (omega arith)
-woven-second (a ∷ xs) [] i e l = absurd (omega arith)
-woven-second (a ∷ xs) (b ∷ ys) zero e l = refl
-woven-second (a ∷ xs) (b ∷ ys) (suc i) e l =
-    let at : 2 * suc i + 1 ≡ suc (suc (2 * i + 1)) = omega arith in
-    rw at (woven-second xs ys i (omega arith) (omega arith))
 
 -- both words of a place are written
 pub woven-set : (xs ys : List ℕ) (i a b : ℕ) → length xs ≡ length ys → i < length xs

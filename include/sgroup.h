@@ -11,6 +11,8 @@
  * call functions with a `const` table on one table at the same time, as long as nobody writes to it meanwhile, and likewise on one index. Every run that
  * is not `const`, `answer` and `out` among them, a call needs to itself.
  *
+ * Stack: on x86-64 no function takes more than 1,536 bytes below the frame of its caller, its arguments and what it calls among them. There is no heap.
+ *
  * In a set of nodes the bit i is node i. A pid's host is the whole part of pid / 67108864.
  *
  * The answer is four words, which each function that takes `answer` writes there: kind, first number, second number, reason; numbers that a kind doesn't

@@ -1,9 +1,9 @@
 #!/usr/bin/env bash
-# No function of the library for C takes more than 2 KiB of stack below the frame of its caller, on any path through its code and all that it
+# No function of the library for C takes more than 1,536 bytes of stack below the frame of its caller, on any path through its code and all that it
 # calls. That is read from the object code for x86-64; on another processor nothing is checked but the program that reads it.
 set -uo pipefail
 cd "$(dirname "${BASH_SOURCE[0]}")/.."
-bound=2048
+bound=1536
 said=$(mktemp)
 trap 'rm -f "$said"' EXIT
 quietly() { "$@" >"$said" 2>&1 || { cat "$said"; exit 1; }; }

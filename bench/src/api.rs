@@ -7,208 +7,74 @@ type Run = *mut u64;
 
 type Text = *const u8;
 
-/// One side: the test, opening, the fifteen commands and a launch.
-pub struct Api {
-    pub is_sound: unsafe extern "C" fn(*const u64, usize) -> bool,
-    pub open: unsafe extern "C" fn(Run, usize, u32, u64, Run, usize) -> u32,
-    pub register_name: unsafe extern "C" fn(Run, usize, u32, u32, u32, u32, Run, usize) -> u32,
-    pub re_register_name: unsafe extern "C" fn(Run, usize, u32, u32, u32, u32, Run, usize) -> u32,
-    pub unregister_name: unsafe extern "C" fn(Run, usize, u32, u32, u32, Run, usize) -> u32,
-    pub registered_names: unsafe extern "C" fn(Run, usize, u32, u32, Run, usize, Run, usize) -> u32,
-    pub whereis_name: unsafe extern "C" fn(Run, usize, u32, u32, u32, Run, usize) -> u32,
-    pub whereis_name_at: unsafe extern "C" fn(Run, usize, u32, u32, u32, u32, Run, usize) -> u32,
-    pub send: unsafe extern "C" fn(Run, usize, u32, u32, Run, usize) -> u32,
-    pub send_name: unsafe extern "C" fn(Run, usize, u32, u32, u32, Run, usize) -> u32,
-    pub send_at: unsafe extern "C" fn(Run, usize, u32, u32, u32, u32, Run, usize) -> u32,
-    pub new_s_group: unsafe extern "C" fn(Run, usize, u32, u32, u64, Run, usize) -> u32,
-    pub add_nodes: unsafe extern "C" fn(Run, usize, u32, u32, u64, Run, usize) -> u32,
-    pub remove_nodes: unsafe extern "C" fn(Run, usize, u32, u32, u64, Run, usize) -> u32,
-    pub delete_s_group: unsafe extern "C" fn(Run, usize, u32, u32, Run, usize) -> u32,
-    pub own_nodes: unsafe extern "C" fn(Run, usize, u32, Run, usize) -> u32,
-    pub own_s_groups: unsafe extern "C" fn(Run, usize, u32, Run, usize, Run, usize) -> u32,
-    pub launch: unsafe extern "C" fn(
-        Run,
-        usize,
-        u32,
-        u64,
-        u32,
-        Text,
-        usize,
-        Text,
-        usize,
-        Run,
-        usize,
-    ) -> u32,
+type IsSound = unsafe extern "C" fn(*const u64, usize) -> bool;
+
+extern "C" {
+    fn sgroup_is_sound(t: *const u64, len: usize) -> bool;
+    fn notest_is_sound(t: *const u64, len: usize) -> bool;
 }
 
-/// Declares the proved functions under a prefix, and their table.
-macro_rules! proved {
-    ($table:ident: $is_sound:ident $open:ident $register_name:ident $re_register_name:ident $unregister_name:ident $registered_names:ident
-     $whereis_name:ident $whereis_name_at:ident $send:ident $send_name:ident $send_at:ident $new_s_group:ident $add_nodes:ident $remove_nodes:ident
-     $delete_s_group:ident $own_nodes:ident $own_s_groups:ident $launch:ident) => {
-        extern "C" {
-            fn $is_sound(t: *const u64, len: usize) -> bool;
-            fn $open(t: Run, len: usize, n: u32, hidden: u64, a: Run, room: usize) -> u32;
-            fn $register_name(
-                t: Run,
-                len: usize,
-                caller: u32,
-                s: u32,
-                n: u32,
-                p: u32,
-                a: Run,
-                room: usize,
-            ) -> u32;
-            fn $re_register_name(
-                t: Run,
-                len: usize,
-                caller: u32,
-                s: u32,
-                n: u32,
-                p: u32,
-                a: Run,
-                room: usize,
-            ) -> u32;
-            fn $unregister_name(
-                t: Run,
-                len: usize,
-                caller: u32,
-                s: u32,
-                n: u32,
-                a: Run,
-                room: usize,
-            ) -> u32;
-            fn $registered_names(
-                t: Run,
-                len: usize,
-                caller: u32,
-                s: u32,
-                o: Run,
-                out_len: usize,
-                a: Run,
-                room: usize,
-            ) -> u32;
-            fn $whereis_name(
-                t: Run,
-                len: usize,
-                caller: u32,
-                s: u32,
-                n: u32,
-                a: Run,
-                room: usize,
-            ) -> u32;
-            fn $whereis_name_at(
-                t: Run,
-                len: usize,
-                caller: u32,
-                node: u32,
-                s: u32,
-                n: u32,
-                a: Run,
-                room: usize,
-            ) -> u32;
-            fn $send(t: Run, len: usize, caller: u32, p: u32, a: Run, room: usize) -> u32;
-            fn $send_name(
-                t: Run,
-                len: usize,
-                caller: u32,
-                s: u32,
-                n: u32,
-                a: Run,
-                room: usize,
-            ) -> u32;
-            fn $send_at(
-                t: Run,
-                len: usize,
-                caller: u32,
-                node: u32,
-                s: u32,
-                n: u32,
-                a: Run,
-                room: usize,
-            ) -> u32;
-            fn $new_s_group(
-                t: Run,
-                len: usize,
-                caller: u32,
-                s: u32,
-                set: u64,
-                a: Run,
-                room: usize,
-            ) -> u32;
-            fn $add_nodes(
-                t: Run,
-                len: usize,
-                caller: u32,
-                s: u32,
-                set: u64,
-                a: Run,
-                room: usize,
-            ) -> u32;
-            fn $remove_nodes(
-                t: Run,
-                len: usize,
-                caller: u32,
-                s: u32,
-                set: u64,
-                a: Run,
-                room: usize,
-            ) -> u32;
-            fn $delete_s_group(t: Run, len: usize, caller: u32, s: u32, a: Run, room: usize)
-                -> u32;
-            fn $own_nodes(t: Run, len: usize, caller: u32, a: Run, room: usize) -> u32;
-            fn $own_s_groups(
-                t: Run,
-                len: usize,
-                caller: u32,
-                o: Run,
-                out_len: usize,
-                a: Run,
-                room: usize,
-            ) -> u32;
-            fn $launch(
-                t: Run,
-                len: usize,
-                n: u32,
-                hidden: u64,
-                start: u32,
-                book: Text,
-                book_len: usize,
-                file: Text,
-                file_len: usize,
-                a: Run,
-                room: usize,
-            ) -> u32;
+unsafe extern "C" fn never_sound(_: *const u64, _: usize) -> bool {
+    false
+}
+
+/// One side; the proved functions, with their test and without; and functions that do nothing. Each but the test has a table, its arguments and an answer.
+macro_rules! functions {
+    ($($name:ident = $proved:ident, $untested:ident($($width:ty),*);)*) => {
+        pub struct Api {
+            pub is_sound: IsSound,
+            $(pub $name: unsafe extern "C" fn(Run, usize, $($width,)* Run, usize) -> u32,)*
         }
-        pub const $table: Api = Api {
-            is_sound: $is_sound,
-            open: $open,
-            register_name: $register_name,
-            re_register_name: $re_register_name,
-            unregister_name: $unregister_name,
-            registered_names: $registered_names,
-            whereis_name: $whereis_name,
-            whereis_name_at: $whereis_name_at,
-            send: $send,
-            send_name: $send_name,
-            send_at: $send_at,
-            new_s_group: $new_s_group,
-            add_nodes: $add_nodes,
-            remove_nodes: $remove_nodes,
-            delete_s_group: $delete_s_group,
-            own_nodes: $own_nodes,
-            own_s_groups: $own_s_groups,
-            launch: $launch,
+
+        extern "C" {
+            $(
+                fn $proved(t: Run, len: usize, $(_: $width,)* a: Run, room: usize) -> u32;
+                fn $untested(t: Run, len: usize, $(_: $width,)* a: Run, room: usize) -> u32;
+            )*
+        }
+
+        pub const PROVED: Api = Api {
+            is_sound: sgroup_is_sound,
+            $($name: $proved,)*
+        };
+
+        pub const PROVED_UNTESTED: Api = Api {
+            is_sound: notest_is_sound,
+            $($name: $untested,)*
+        };
+
+        pub const NOTHING: Api = Api {
+            is_sound: never_sound,
+            $($name: {
+                unsafe extern "C" fn nothing(_: Run, _: usize, $(_: $width,)* _: Run, _: usize) -> u32 {
+                    0
+                }
+                nothing
+            },)*
         };
     };
 }
 
-proved!(PROVED: sgroup_is_sound sgroup_open sgroup_register_name sgroup_re_register_name sgroup_unregister_name sgroup_registered_names
-    sgroup_whereis_name sgroup_whereis_name_at sgroup_send sgroup_send_name sgroup_send_at sgroup_new_s_group sgroup_add_nodes sgroup_remove_nodes
-    sgroup_delete_s_group sgroup_own_nodes sgroup_own_s_groups sgroup_launch);
-proved!(PROVED_UNTESTED: notest_is_sound notest_open notest_register_name notest_re_register_name notest_unregister_name notest_registered_names
-    notest_whereis_name notest_whereis_name_at notest_send notest_send_name notest_send_at notest_new_s_group notest_add_nodes notest_remove_nodes
-    notest_delete_s_group notest_own_nodes notest_own_s_groups notest_launch);
+functions! {
+    open = sgroup_open, notest_open(u32, u64);
+    register_name = sgroup_register_name, notest_register_name(u32, u32, u32, u32);
+    re_register_name = sgroup_re_register_name, notest_re_register_name(u32, u32, u32, u32);
+    unregister_name = sgroup_unregister_name, notest_unregister_name(u32, u32, u32);
+    registered_names = sgroup_registered_names, notest_registered_names(u32, u32, Run, usize);
+    whereis_name = sgroup_whereis_name, notest_whereis_name(u32, u32, u32);
+    whereis_name_at = sgroup_whereis_name_at, notest_whereis_name_at(u32, u32, u32, u32);
+    send = sgroup_send, notest_send(u32, u32);
+    send_name = sgroup_send_name, notest_send_name(u32, u32, u32);
+    send_at = sgroup_send_at, notest_send_at(u32, u32, u32, u32);
+    new_s_group = sgroup_new_s_group, notest_new_s_group(u32, u32, u64);
+    add_nodes = sgroup_add_nodes, notest_add_nodes(u32, u32, u64);
+    remove_nodes = sgroup_remove_nodes, notest_remove_nodes(u32, u32, u64);
+    delete_s_group = sgroup_delete_s_group, notest_delete_s_group(u32, u32);
+    own_nodes = sgroup_own_nodes, notest_own_nodes(u32);
+    own_s_groups = sgroup_own_s_groups, notest_own_s_groups(u32, Run, usize);
+    launch = sgroup_launch, notest_launch(u32, u64, u32, Text, usize, Text, usize);
+}
+
 pub const PLAIN: Api = api::<Marks>();
 pub const PLAIN_UNTESTED: Api = api::<Untested>();
 

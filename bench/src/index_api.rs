@@ -5,7 +5,7 @@ use crate::plain::test::{peers, Marks, Peer};
 
 type Run = *mut u64;
 
-/// One side, and the proved functions: a table and an index, the arguments of each, the answer.
+/// One side, the proved functions, and functions that do nothing: a table and an index, the arguments of each, the answer.
 macro_rules! functions {
     ($($name:ident = $proved:ident($($width:ty),*);)*) => {
         pub struct IndexApi {
@@ -18,6 +18,15 @@ macro_rules! functions {
 
         pub const PROVED: IndexApi = IndexApi {
             $($name: $proved,)*
+        };
+
+        pub const NOTHING: IndexApi = IndexApi {
+            $($name: {
+                unsafe extern "C" fn nothing(_: Run, _: usize, _: Run, _: usize, $(_: $width,)* _: Run, _: usize) -> u32 {
+                    0
+                }
+                nothing
+            },)*
         };
     };
 }

@@ -13,7 +13,7 @@ use crate::plain::sizes::{Index, BODIES, BODY, CONTENTS, INDEX_WORDS, PIDS_PER_H
 use crate::race::{best, Plan};
 use crate::rows::{fastest, fastest_peer, heading, heading_with, row, row_with, Times};
 use crate::strangers::STRANGER;
-use crate::tables::{table, Size, FULL, SMALL, STORE};
+use crate::tables::{dense, table, Size, FULL, SMALL, STORE};
 use compare::index_case::Case;
 use compare::index_random::{Faults, Walk, STEPS};
 use model::index::IndexRequest;
@@ -420,14 +420,14 @@ fn writing(prng: &mut Prng) {
     nanos.row_beside("Open");
 }
 
-/// Calls whose stack is measured, on two nearly full tables.
+/// Calls whose stack is measured, on three nearly full tables.
 pub struct StackRow {
     pub what: String,
     pub called: Called,
-    pub calls: [(Lent, Asked); 2],
+    pub calls: [(Lent, Asked); 3],
 }
 
-/// Each command, opening, reading by pid and writing.
+/// Each command, opening, reading by pid and writing, each of them done.
 pub fn stack_rows(prng: &mut Prng) -> Vec<StackRow> {
     let commands = Which::COMMANDS.into_iter().map(Called::Beside);
     let others = [Called::Beside(Which::Open), Called::NamesOf, Called::Write];
@@ -437,13 +437,18 @@ pub fn stack_rows(prng: &mut Prng) -> Vec<StackRow> {
             Called::Beside(which) => (format!("{which:?}, index"), which),
             _ => (format!("{called:?}"), Which::OwnNodes),
         };
-        let tables = [(Pids::Scattered, false), (Pids::Everywhere, true)];
-        let calls = tables.map(|(pids, any_names)| {
-            let words = with_pids(prng, roomy(FULL), pids, any_names);
-            let p = words[BODIES] as u32;
+        let size = roomy(FULL);
+        let tables = [
+            with_pids(prng, size, Pids::Scattered, false),
+            with_pids(prng, size, Pids::Everywhere, true),
+            dense(with_pids(prng, size, Pids::Scattered, true)),
+        ];
+        let calls = tables.map(|words| {
             let mut asked = main_cases(prng, which, &words, 1)[0];
-            if called == Called::NamesOf {
-                asked.p = p;
+            match called {
+                Called::NamesOf => asked.p = words[BODIES] as u32,
+                Called::Beside(Which::Open) => asked.n = words[0] as u32,
+                _ => {}
             }
             (Lent::new(&words, &index_of(&words)), asked)
         });

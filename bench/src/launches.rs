@@ -237,11 +237,11 @@ fn long_value(prng: &mut Prng) -> Launch {
     with_pairs(prng, MAIN, &format!("{{log, [{value}none]}},\n "))
 }
 
-/// A pair whose value has brackets as deep as they may be.
+/// A pair whose value has brackets as deep as they may be, and an atom in the innermost.
 fn deep_pair() -> String {
     let open: String = "[{".repeat(DEEPEST / 2);
     let close: String = "}]".repeat(DEEPEST / 2);
-    format!("{{deep, {open}{close}}}")
+    format!("{{deep, {open}bottom{close}}}")
 }
 
 /// The main file with such a pair before the entry.

@@ -1,6 +1,6 @@
 //! Times the proved library against plain Rust written for speed, in one run, and prints the ratios: `bench SEED [PROGRAM WORD..]`. First both are held to
 //! the same answers and words on random calls, with an index and without, removals, lookups, namespaces and launches, and to the same lines on the scripts; `bench agree SEED [PROGRAM WORD..]` does that
-//! alone, and holds the stack of each call to its bar. `bench main-rows SEED` times the test on the main tables alone, and `bench launch-file SEED` prints the launch file that is timed first.
+//! alone, and holds the stack of each call to its bar. `bench main-rows SEED` times the test on the main tables alone, `bench stack SEED` prints what each call takes of the stack, and `bench launch-file SEED` prints the launch file that is timed first.
 //! Needs target/native/libsgroup_c.a; `bench/run` builds it, and gives the words that run the script program.
 
 mod agree;
@@ -25,10 +25,11 @@ mod tables;
 /// Walks of random calls on which both sides agree.
 const WALKS: u64 = 200;
 
-/// The word by which both sides are only held to the same, and nothing is timed; the one by which only the main rows of the test are timed; and the one by which the main
-/// launch file is printed.
+/// The word by which both sides are only held to the same, and nothing is timed; the one by which only the main rows of the test are timed; the one by which only the stack
+/// of each call is measured; and the one by which the main launch file is printed.
 const AGREE: &str = "agree";
 const MAIN_ROWS: &str = "main-rows";
+const STACK: &str = "stack";
 const LAUNCH_FILE: &str = "launch-file";
 
 fn main() {
@@ -36,6 +37,7 @@ fn main() {
     match arguments.as_slice() {
         [word, test] if word == scripts::PLAIN => scripts::run_plain(test),
         [word, seed] if word == MAIN_ROWS => soundness::main_rows(number(seed)),
+        [word, seed] if word == STACK => stack::depths(number(seed)),
         [word, seed] if word == LAUNCH_FILE => print_launch_file(number(seed)),
         [word, seed, program @ ..] if word == AGREE => agree_only(number(seed), program),
         [seed, program @ ..] => times(number(seed), program),
@@ -48,7 +50,7 @@ fn number(seed: &str) -> u64 {
 }
 
 fn usage() -> ! {
-    eprintln!("usage: bench [agree] SEED [PROGRAM WORD..] | bench main-rows SEED | bench launch-file SEED");
+    eprintln!("usage: bench [agree] SEED [PROGRAM WORD..] | bench main-rows SEED | bench stack SEED | bench launch-file SEED");
     std::process::exit(2)
 }
 

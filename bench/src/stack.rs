@@ -1,19 +1,38 @@
 //! How much stack a proved call takes: the stack of a thread of its own is painted below the caller, and what is overwritten is measured.
 
-use crate::api::{Api, PROVED};
+use crate::api::{self, Api};
 use crate::call::{calls, Asked, Lent, Which};
-use crate::commands::{free_rows, main_cases};
-use crate::index_api;
+use crate::commands::{free_rows, main_cases, roomy};
+use crate::index_api::{self, IndexApi};
 use crate::index_call::call;
 use crate::indexes;
 use crate::launches::{called, stack_rows};
-use crate::tables::{table, Size, FULL};
+use crate::tables::{dense, one_slot_and_mark, table, two_free_groups, FULL};
 use model::prng::Prng;
 
 const PAINT: u64 = 0xa5a5_5a5a_c3c3_3c3c;
 const DEPTH: usize = 64 * 1024;
 /// The most that a call may take.
-const BAR: usize = 2048;
+const BAR: usize = 1536;
+/// The address to which a call returns.
+const RETURN: usize = 8;
+/// Calls of each command on each table.
+const CALLS: usize = 64;
+
+/// The proved functions, or functions of the same arguments that do nothing.
+struct Side {
+    api: &'static Api,
+    index: &'static IndexApi,
+}
+
+const PROVED: Side = Side {
+    api: &api::PROVED,
+    index: &index_api::PROVED,
+};
+const NOTHING: Side = Side {
+    api: &api::NOTHING,
+    index: &index_api::NOTHING,
+};
 
 /// Paints the stack below the caller; where the paint begins.
 #[inline(never)]
@@ -27,27 +46,23 @@ fn paint() -> *const u64 {
 
 /// How far below this frame a call writes: the paint is looked at from its far end to the first word that was painted over.
 #[inline(never)]
-fn depth(call: &mut dyn FnMut() -> u64) -> usize {
+fn depth(call: &mut dyn FnMut(&Side) -> u64, side: &Side) -> usize {
     let here = 0u64;
     let mut at = paint();
-    std::hint::black_box(call());
+    std::hint::black_box(call(side));
     while unsafe { std::ptr::read_volatile(at) } == PAINT {
         at = at.wrapping_add(1);
     }
     std::hint::black_box(&here) as *const u64 as usize - at as usize
 }
 
-unsafe extern "C" fn nothing(_: *const u64, _: usize) -> bool {
-    false
+/// The bytes that a call takes below its arguments. The same code calls the function that does nothing, which leaves no more than the address to return to.
+fn taken(call: &mut dyn FnMut(&Side) -> u64) -> usize {
+    let nothing = depth(call, &NOTHING);
+    depth(call, &PROVED) - nothing + RETURN
 }
 
-/// The proved side with a test that does nothing.
-const NOTHING: Api = Api {
-    is_sound: nothing,
-    ..PROVED
-};
-
-/// What each call takes, in a thread of its own: the test, then each command and launches; bytes beyond those of a call of nothing.
+/// What each call takes, in a thread of its own: the test, opening, each command, those with an index and launches.
 fn measured(seed: u64) -> Vec<(String, usize)> {
     std::thread::Builder::new()
         .stack_size(1 << 20)
@@ -58,10 +73,10 @@ fn measured(seed: u64) -> Vec<(String, usize)> {
 }
 
 pub fn depths(seed: u64) {
-    println!("\n{:<22} {:>12}", "function", "stack bytes");
+    println!("\n{:<26} {:>12}", "function", "stack bytes");
     for (what, bytes) in measured(seed) {
         let over = if bytes > BAR { "  over the bar" } else { "" };
-        println!("{what:<22} {bytes:>12}{over}");
+        println!("{what:<26} {bytes:>12}{over}");
     }
 }
 
@@ -76,63 +91,68 @@ pub fn held(seed: u64) -> usize {
 
 fn measure(seed: u64) -> Vec<(String, usize)> {
     let mut prng = Prng::new(seed);
-    let words = table(&mut prng, FULL);
-    let base = depth(&mut || test(&NOTHING, &words));
-    let tested = depth(&mut || test(&PROVED, &words)).saturating_sub(base);
+    let tables = worst_tables(&mut prng);
+    let tested = tables.iter().map(|words| {
+        taken(&mut |side| u64::from(unsafe { (side.api.is_sound)(words.as_ptr(), words.len()) }))
+    });
+    let mut all = vec![("IsSound".to_string(), tested.max().unwrap_or(0))];
     let opening = Asked {
         n: 64,
         ..Asked::default()
     };
-    let opened = worst(base, Which::Open, &words, &[opening]);
-    let mut all = vec![
-        ("IsSound".to_string(), tested),
-        ("Open".to_string(), opened),
-    ];
+    all.push((
+        "Open".to_string(),
+        worst(Which::Open, &tables[0], &[opening]),
+    ));
     for which in Which::COMMANDS {
-        all.push((format!("{which:?}"), command(&mut prng, base, which)));
+        all.push((format!("{which:?}"), command(&mut prng, which)));
     }
     for row in indexes::stack_rows(&mut prng) {
         let deepest = row.calls.into_iter().map(|(mut lent, asked)| {
-            depth(&mut || u64::from(call(&index_api::PROVED, row.called, &mut lent, &asked)))
+            taken(&mut |side| u64::from(call(side.index, row.called, &mut lent, &asked)))
         });
-        all.push((row.what, deepest.max().unwrap_or(0).saturating_sub(base)));
+        all.push((row.what, deepest.max().unwrap_or(0)));
     }
     for (what, given) in stack_rows(&mut prng) {
-        let mut lent = Lent::new(&words);
-        let bytes = depth(&mut || u64::from(called(&PROVED, &mut lent, &given)));
-        all.push((what.to_string(), bytes.saturating_sub(base)));
+        let mut lent = Lent::new(&tables[0]);
+        let bytes = taken(&mut |side| u64::from(called(side.api, &mut lent, &given)));
+        all.push((what.to_string(), bytes));
     }
     all
 }
 
-/// One test, as a number.
-fn test(api: &Api, words: &[u64]) -> u64 {
-    u64::from(unsafe { (api.is_sound)(words.as_ptr(), words.len()) })
+/// Tables of 64 nodes on which the test has most to do: full ones, with every connection, with pids that no slot and no mark tells apart, and free groups.
+fn worst_tables(prng: &mut Prng) -> [Vec<u64>; 4] {
+    let full = table(prng, FULL);
+    [
+        full.clone(),
+        dense(full),
+        one_slot_and_mark(prng),
+        two_free_groups(prng),
+    ]
 }
 
-/// The deepest of many calls of a command on a nearly full table, and of its calls that move most free nodes.
-fn command(prng: &mut Prng, base: usize, which: Which) -> usize {
-    let nearly = Size {
-        groups: FULL.groups - 1,
-        names: FULL.names - 1,
-        ..FULL
-    };
-    let words = table(prng, nearly);
-    let asked = main_cases(prng, which, &words, 64);
-    let mut bytes = worst(base, which, &words, &asked);
+/// The deepest of many calls of a command on nearly full tables, with every connection and without, and of its calls that move most free nodes.
+fn command(prng: &mut Prng, which: Which) -> usize {
+    let nearly = table(prng, roomy(FULL));
+    let mut bytes = 0;
+    for words in [dense(nearly.clone()), nearly] {
+        let asked = main_cases(prng, which, &words, CALLS);
+        bytes = bytes.max(worst(which, &words, &asked));
+    }
     for (_, other, words, one) in free_rows() {
         if other == which {
-            bytes = bytes.max(worst(base, which, &words, &[one]));
+            bytes = bytes.max(worst(which, &words, &[one]));
         }
     }
     bytes
 }
 
 /// The deepest of these calls, each on the table as it was.
-fn worst(base: usize, which: Which, words: &[u64], asked: &[Asked]) -> usize {
+fn worst(which: Which, words: &[u64], asked: &[Asked]) -> usize {
     let deepest = asked.iter().map(|one| {
         let mut lent = [Lent::new(words)];
-        depth(&mut || calls(&PROVED, which, &mut lent, std::slice::from_ref(one)))
+        taken(&mut |side| calls(side.api, which, &mut lent, std::slice::from_ref(one)))
     });
-    deepest.max().unwrap_or(0).saturating_sub(base)
+    deepest.max().unwrap_or(0)
 }

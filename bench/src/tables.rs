@@ -201,6 +201,21 @@ pub fn table(prng: &mut Prng, size: Size) -> Vec<u64> {
     words
 }
 
+/// The sound table with every node connected with every other: its free nodes, which are normal, are then one free group.
+pub fn dense(mut words: Vec<u64>) -> Vec<u64> {
+    let grouped = words[MEMBERS..][..GROUPS]
+        .iter()
+        .fold(0, |all, set| all | set);
+    let all = u64::MAX >> (ROSTER as u64 - words[0]);
+    for node in (0..ROSTER).filter(|node| all >> node & 1 == 1) {
+        words[LINKS + node] = all & !(1 << node);
+        if grouped >> node & 1 == 0 {
+            words[FREE + node] = all & !grouped;
+        }
+    }
+    words
+}
+
 /// A table of 64 normal nodes: the first 32 in one s_group where that is wanted, else in a free group; the other 32 in a free group; where `bridged`,
 /// node 0 is connected to node 32, which makes one free group of all where there is no s_group.
 pub fn halves(group: bool, bridged: bool) -> Vec<u64> {

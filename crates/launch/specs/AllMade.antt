@@ -31,13 +31,14 @@ use Rattle.book.specs.Book.{lines, fit}
 use Rattle.duplicates.specs.Duplicates.{kept, clash}
 use Rattle.duplicates.specs.Names.{both, kept-apart}
 use Rattle.plan.specs.Plan.{listed, all-listed, plan-words}
+use Rattle.plan.specs.Creatable.{number-high}
 use Rattle.plan.specs.Peopled.{kept-peopled}
 use Rattle.published.specs.Refusals.{Lowest}
 use Rattle.published.specs.LowestReason.{first-lowest}
 use Rattle.launch.specs.Launch.{Launch, found, no-file, launch-tests, place-of-refusal, made, launch}
 use Rattle.launch.specs.Launches.{In-order, opened-ok, words-make}
 use Rattle.launch.specs.TakenGroups.{taken-peopled}
-use Rattle.launch.specs.Makeable.{two-each, number-below, set-below, words-makeable}
+use Rattle.launch.specs.Makeable.{two-each, set-below, words-makeable}
 
 -- the reason that is given is the one of lowest rank that holds
 pub launch-lowest : (run N hidden start : ℕ) (book : List ℕ) (o : Outcome)
@@ -53,7 +54,7 @@ made-sound N book b few (g ∷ gs) t a s =
     let p = both (listed N book g) (all-listed N book gs) a in
     let m : 2 ^ N ≤ 2 ^ node-limit = pow-mono few in
     made-sound N book b few gs _ (p .1)
-    (calls-keep-sound 0 _ _ t (omega (arith, number-below N book b few g (p .0)), omega (arith, set-below N book b few g (p .0))) s)
+    (calls-keep-sound 0 _ _ t (omega (arith, number-high N book b g (p .0)), omega (arith, set-below N book b few g (p .0))) s)
 
 -- what is a file is taken with its groups
 is-taken : (o : Outcome) → no-file o ≡ false → o ≡ taken (found o)

@@ -20,7 +20,8 @@ use Rattle.book.specs.PlaceLaws.{place-among}
 use Rattle.duplicates.specs.Duplicates.{covered, named}
 use Rattle.duplicates.specs.Names.{both, neither, apart}
 use Rattle.plan.specs.Plan.{number-of, set-with, set-of, listed, all-listed, plan-words}
-use Rattle.plan.specs.Looked.{fit-nodes, few-atoms}
+use Rattle.plan.specs.Looked.{fit-nodes}
+use Rattle.plan.specs.Creatable.{number-high}
 use Rattle.plan.specs.Peopled.{some-node, peopled}
 use Rattle.creating.specs.Creations.{differs, makeable}
 
@@ -94,16 +95,9 @@ module _ (N : ℕ) (book : List ℕ) where
           true≢false (sym (same-refl (g .name)) ∙ ap (λ (w : List ℕ). same w (g .name)) (sym s) ∙ q)
 
   module _ (fits : fit N book ≡ true) (small : N ≤ node-limit) where
-    -- the number of a group in the book has 16 binary digits
-    pub number-below : (g : Group) → listed N book g ≡ true → number-of N book g < group-names
-    number-below g h =
-        let a = both (among (group-atoms-of N book) (g .name)) (covered (g .nodes) (node-atoms N book)) h .0 in
-        let l = ltb-true (place-of (g .name) (group-atoms-of N book)) (length (group-atoms-of N book)) (place-among (g .name) (group-atoms-of N book) ∙ a) in
-        omega (arith, l, few-atoms N book fits)
-
-    -- and names an s_group
+    -- the number of a group in the book names an s_group
     names-group : (g : Group) → listed N book g ≡ true → bad-group (number-of N book g) ≡ false
-    names-group g h = rw (ne-eqb (number-of N book g) 0 (λ e. omega arith), lt-leb group-names (number-of N book g) (number-below g h))
+    names-group g h = rw (ne-eqb (number-of N book g) 0 (λ e. omega arith), lt-leb group-names (number-of N book g) (number-high N book fits g h))
 
     -- its set is on the roster
     pub set-below : (g : Group) → listed N book g ≡ true → set-of N book g < 2 ^ N

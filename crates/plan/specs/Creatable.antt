@@ -63,7 +63,7 @@ module _ (N : ℕ) (book : List ℕ) where
       ltb-true _ _ (place-among (g .name) (group-atoms-of N book) ∙ both (among (group-atoms-of N book) (g .name)) (covered (g .nodes) (node-atoms N book)) h .0)
 
   -- the number of a group in the book has its range
-  number-high : fit N book ≡ true → (g : Group) → listed N book g ≡ true → number-of N book g < group-names
+  pub number-high : fit N book ≡ true → (g : Group) → listed N book g ≡ true → number-of N book g < group-names
   number-high fits g h = omega (arith, listed-place g h, few-atoms N book fits)
 
   -- so has that of a group that was looked up

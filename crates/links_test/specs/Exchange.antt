@@ -1,4 +1,5 @@
--- One round of turning rows of 64 digits about their diagonal, at a place j: 1, 2, 4, 8, 16 or 32. Row r and column c is the digit c of word r.
+-- One round of turning rows of 64 digits about their diagonal: the place a of the row's number, 1, 2 or 4, and the place j of the column's, 1, 2, 4, 8, 16 or 32,
+-- change sides. Row r and column c is the digit c of word r.
 -- Assumes nothing.
 use mathlib.Core.Path.{_≡_, refl, sym, ap, ap₂, _∙_}
 use mathlib.Core.Logic.{_⊎_, inl, inr, ⊎-elim}
@@ -23,7 +24,7 @@ use Rattle.links_test.specs.Mutual.{even, even-xor}
 
 -- so many rows are turned at a time
 abbrev pub unit-rows : ℕ
-unit-rows = 16
+unit-rows = 8
 
 -- so many pairs they make
 abbrev pub unit-pairs : ℕ
@@ -43,9 +44,9 @@ pub record Half (j mask : ℕ) : Type 0 where
   pub few : j < node-limit
   pub low : all-below node-limit (λ c. Bool·beq (has mask c) (eqb (place c j) 0)) ≡ true
 
--- the pairs of rows at the place j fill a unit
+-- the pairs of rows at the place a fill a unit
 abbrev pub Within : ℕ → Type 0
-Within j = unit-pairs % j ≡ 0
+Within a = unit-pairs % a ≡ 0
 
 -- the digits in which rows x and y change sides in a round at the place j
 abbrev pub crossing : ℕ → ℕ → ℕ → ℕ → ℕ
@@ -65,31 +66,33 @@ changed j mask x y (suc d) = upper j mask x y
 
 -- the first row of the pair k, and the pair that row r is in
 abbrev pub row-of : ℕ → ℕ → ℕ
-row-of j k = k / j * (2 * j) + k % j
+row-of a k = k / a * (2 * a) + k % a
 
 abbrev pub pair-of : ℕ → ℕ → ℕ
-pair-of j r = r / j / 2 * j + r % j
+pair-of a r = r / a / 2 * a + r % a
 
 -- the pair k of rows done
-abbrev pub after-pair : ℕ → ℕ → List ℕ → ℕ → List ℕ
-after-pair j mask to k =
-    set (set to (row-of j k) (lower j mask (word-at to (row-of j k)) (word-at to (row-of j k + j)))) (row-of j k + j)
-    (upper j mask (word-at to (row-of j k)) (word-at to (row-of j k + j)))
+abbrev pub after-pair : ℕ → ℕ → ℕ → List ℕ → ℕ → List ℕ
+after-pair a j mask to k =
+    set (set to (row-of a k) (lower j mask (word-at to (row-of a k)) (word-at to (row-of a k + a)))) (row-of a k + a)
+    (upper j mask (word-at to (row-of a k)) (word-at to (row-of a k + a)))
 
--- at row r and column c the two have changed sides at the place j
-abbrev pub Crossed : ℕ → List ℕ → List ℕ → ℕ → ℕ → Type 0
-Crossed j from to r c = has (word-at to r) c ≡ has (word-at from (placed r j (place c j))) (placed c j (place r j))
+-- at row r and column c the places a and j have changed sides
+abbrev pub Crossed : ℕ → ℕ → List ℕ → List ℕ → ℕ → ℕ → Type 0
+Crossed a j from to r c = has (word-at to r) c ≡ has (word-at from (placed r a (place c j))) (placed c j (place r a))
 
--- a round at the place j as far as the pair k: the other rows are as they were
-pub record Partly (j k : ℕ) (from to : List ℕ) : Type 0 where
+-- a round as far as the pair k, whose rows are words: the other rows are as they were
+pub record Partly (a j k : ℕ) (from to : List ℕ) : Type 0 where
   pub long : length to ≡ unit-rows
-  pub done : (r c : ℕ) → r < unit-rows → c < node-limit → pair-of j r < k → Crossed j from to r c
-  pub left : (r : ℕ) → r < unit-rows → k ≤ pair-of j r → word-at to r ≡ word-at from r
+  pub fits : (r : ℕ) → r < unit-rows → pair-of a r < k → word-at to r < 2 ^ node-limit
+  pub done : (r c : ℕ) → r < unit-rows → c < node-limit → pair-of a r < k → Crossed a j from to r c
+  pub left : (r : ℕ) → r < unit-rows → k ≤ pair-of a r → word-at to r ≡ word-at from r
 
 -- a whole round
-pub record Exchanged (j : ℕ) (from to : List ℕ) : Type 0 where
+pub record Exchanged (a j : ℕ) (from to : List ℕ) : Type 0 where
   pub long : length to ≡ unit-rows
-  pub at : (r c : ℕ) → r < unit-rows → c < node-limit → Crossed j from to r c
+  pub fits : (r : ℕ) → r < unit-rows → word-at to r < 2 ^ node-limit
+  pub at : (r c : ℕ) → r < unit-rows → c < node-limit → Crossed a j from to r c
 
 -- ---- digits of a word
 
@@ -245,59 +248,63 @@ module _ (j mask x y : ℕ) (h : Half j mask) where
 
 -- ---- the pairs of rows of a unit
 
-module _ (j : ℕ) (some : 0 < j) where
-  -- row d of the pair k, by its digits at j
-  row-digits : (k d : ℕ) → row-of j k + d * j ≡ (k / j * 2 + d) * j + k % j
+module _ (a : ℕ) (some : 0 < a) where
+  -- row d of the pair k, by its digits at a
+  row-digits : (k d : ℕ) → row-of a k + d * a ≡ (k / a * 2 + d) * a + k % a
   row-digits k d = omega arith
 
-  pair-row : (k d : ℕ) → d < 2 → pair-of j (row-of j k + d * j) ≡ k
+  pair-row : (k d : ℕ) → d < 2 → pair-of a (row-of a k + d * a) ≡ k
   pair-row k d l =
-      ap (λ (r : ℕ). r / j / 2 * j + r % j) (row-digits k d)
-      ∙ ap₂ (λ (q m : ℕ). q / 2 * j + m) (digits-div (k / j * 2 + d) (mod-lt k some)) (digits-mod (k / j * 2 + d) (mod-lt k some))
-      ∙ ap (λ (q : ℕ). q * j + k % j) (omega arith) ∙ div-add-mod' k j
+      ap (λ (r : ℕ). r / a / 2 * a + r % a) (row-digits k d)
+      ∙ ap₂ (λ (q m : ℕ). q / 2 * a + m) (digits-div (k / a * 2 + d) (mod-lt k some)) (digits-mod (k / a * 2 + d) (mod-lt k some))
+      ∙ ap (λ (q : ℕ). q * a + k % a) (omega arith) ∙ div-add-mod' k a
 
   -- the rows of the pair that row r is in
-  row-pair : (r d : ℕ) → row-of j (pair-of j r) + d * j ≡ placed r j d
+  row-pair : (r d : ℕ) → row-of a (pair-of a r) + d * a ≡ placed r a d
   row-pair r d =
-      row-digits (pair-of j r) d
-      ∙ ap₂ (λ (q m : ℕ). (q * 2 + d) * j + m) (digits-div (r / j / 2) (mod-lt r some)) (digits-mod (r / j / 2) (mod-lt r some))
+      row-digits (pair-of a r) d
+      ∙ ap₂ (λ (q m : ℕ). (q * 2 + d) * a + m) (digits-div (r / a / 2) (mod-lt r some)) (digits-mod (r / a / 2) (mod-lt r some))
 
-  module _ (within : Within j) where
+  module _ (within : Within a) where
     -- so many pairs at a time stand side by side
-    blocks : unit-pairs / j * j ≡ unit-pairs
-    blocks = omega (arith, div-add-mod' unit-pairs j)
+    blocks : unit-pairs / a * a ≡ unit-pairs
+    blocks = omega (arith, div-add-mod' unit-pairs a)
 
-    pub row-lt : (k : ℕ) → k < unit-pairs → row-of j k + j < unit-rows
+    pub row-lt : (k : ℕ) → k < unit-pairs → row-of a k + a < unit-rows
     row-lt k l =
-        let q : k / j < unit-pairs / j = div-lt-iff-lt-mul some .1 (omega (arith, blocks)) in
-        omega (arith, row-digits k 1, digits-lt {q = k / j * 2 + 1} {m = unit-pairs / j * 2} {r = k % j} {c = j} (omega arith) (mod-lt k some), blocks)
+        let q : k / a < unit-pairs / a = div-lt-iff-lt-mul some .1 (omega (arith, blocks)) in
+        omega (arith, row-digits k 1, digits-lt {q = k / a * 2 + 1} {m = unit-pairs / a * 2} {r = k % a} {c = a} (omega arith) (mod-lt k some), blocks)
 
-    row-high : (r : ℕ) → r < unit-rows → r / j < unit-pairs / j * 2
+    -- rows of a pair are fewer than a unit apart
+    pub apart-lt : a < unit-rows
+    apart-lt = omega (arith, row-lt 0 (omega arith))
+
+    row-high : (r : ℕ) → r < unit-rows → r / a < unit-pairs / a * 2
     row-high r l = div-lt-iff-lt-mul some .1 (omega (arith, blocks))
 
-    pair-lt : (r : ℕ) → r < unit-rows → pair-of j r < unit-pairs
+    pair-lt : (r : ℕ) → r < unit-rows → pair-of a r < unit-pairs
     pair-lt r l =
         let q = row-high r l in
-        omega (arith, digits-lt {q = r / j / 2} {m = unit-pairs / j} {r = r % j} {c = j} (omega arith) (mod-lt r some), blocks)
+        omega (arith, digits-lt {q = r / a / 2} {m = unit-pairs / a} {r = r % a} {c = a} (omega arith) (mod-lt r some), blocks)
 
-    placed-lt : (r d : ℕ) → r < unit-rows → d < 2 → placed r j d < unit-rows
+    placed-lt : (r d : ℕ) → r < unit-rows → d < 2 → placed r a d < unit-rows
     placed-lt r d lr ld =
         let q = row-high r lr in
-        omega (arith, digits-lt {q = r / j / 2 * 2 + d} {m = unit-pairs / j * 2} {r = r % j} {c = j} (omega arith) (mod-lt r some), blocks)
+        omega (arith, digits-lt {q = r / a / 2 * 2 + d} {m = unit-pairs / a * 2} {r = r % a} {c = a} (omega arith) (mod-lt r some), blocks)
 
 -- ---- a round
 
 -- before the first pair every row is as it was
-pub begun : (j : ℕ) (ws : List ℕ) → length ws ≡ unit-rows → Partly j 0 ws ws
-begun j ws long = record { long = long; done = λ r c lr lc l. absurd (omega arith); left = λ r lr l. refl }
+pub begun : (a j : ℕ) (ws : List ℕ) → length ws ≡ unit-rows → Partly a j 0 ws ws
+begun a j ws long = record { long = long; fits = λ r lr l. absurd (omega arith); done = λ r c lr lc l. absurd (omega arith); left = λ r lr l. refl }
 
-module _ (j mask : ℕ) (from to : List ℕ) (k : ℕ) (h : Half j mask) (within : Within j) (lk : k < unit-pairs) (was : Partly j k from to) where
+module _ (a j mask : ℕ) (from to : List ℕ) (k : ℕ) (some : 0 < a) (within : Within a) (h : Half j mask) (lk : k < unit-pairs) (was : Partly a j k from to) where
   -- the two rows of the pair
   low : ℕ
-  low = row-of j k
+  low = row-of a k
 
   high : ℕ
-  high = row-of j k + j
+  high = row-of a k + a
 
   -- what they become, and the rows with both in place
   new : ℕ → ℕ
@@ -308,74 +315,86 @@ module _ (j mask : ℕ) (from to : List ℕ) (k : ℕ) (h : Half j mask) (within
 
   high-lt : high < length to
   unfolding high
-  high-lt = omega (arith, row-lt j (h .some) within k lk, was .long)
+  high-lt = omega (arith, row-lt a some within k lk, was .long)
 
   next-low : word-at next low ≡ new 0
   unfolding low high next
   next-low =
-      getD-set-other (set to low (new 0)) high low (new 1) 0 (λ e. omega (arith, h .some)) ∙ getD-set-same to low (new 0) 0 (omega (arith, high-lt))
+      getD-set-other (set to low (new 0)) high low (new 1) 0 (λ e. omega (arith, some)) ∙ getD-set-same to low (new 0) 0 (omega (arith, high-lt))
 
   next-high : word-at next high ≡ new 1
   unfolding next
   next-high = getD-set-same (set to low (new 0)) high (new 1) 0 (simp length-set high-lt)
 
   -- the rows of other pairs
-  next-other : (r : ℕ) → (pair-of j r ≡ k → ⊥) → word-at next r ≡ word-at to r
+  next-other : (r : ℕ) → (pair-of a r ≡ k → ⊥) → word-at next r ≡ word-at to r
   unfolding low high next
   next-other r other =
-      let off : (d : ℕ) → d < 2 → r ≡ row-of j k + d * j → ⊥ = λ d l e. other (ap (pair-of j) e ∙ pair-row j (h .some) k d l) in
+      let off : (d : ℕ) → d < 2 → r ≡ row-of a k + d * a → ⊥ = λ d l e. other (ap (pair-of a) e ∙ pair-row a some k d l) in
       getD-set-other (set to low (new 0)) high r (new 1) 0 (λ e. off 1 (omega arith) (omega arith))
       ∙ getD-set-other to low r (new 0) 0 (λ e. off 0 (omega arith) (omega arith))
 
   -- a row of the pair
-  module _ (r c : ℕ) (lr : r < unit-rows) (lc : c < node-limit) (e : pair-of j r ≡ k) where
-    rows : (d : ℕ) → row-of j k + d * j ≡ placed r j d
-    rows d = ap (λ (i : ℕ). row-of j i + d * j) (sym e) ∙ row-pair j (h .some) r d
+  module _ (r c : ℕ) (lr : r < unit-rows) (lc : c < node-limit) (e : pair-of a r ≡ k) where
+    rows : (d : ℕ) → row-of a k + d * a ≡ placed r a d
+    rows d = ap (λ (i : ℕ). row-of a i + d * a) (sym e) ∙ row-pair a some r d
 
-    low-is : low ≡ placed r j 0
+    low-is : low ≡ placed r a 0
     unfolding low
     low-is = omega (arith, rows 0)
 
-    high-is : high ≡ placed r j 1
+    high-is : high ≡ placed r a 1
     unfolding high
     high-is = omega (arith, rows 1)
 
     -- the old rows, by their place
-    old : (d : ℕ) → d < 2 → word-at to (placed r j d) ≡ word-at from (placed r j d)
+    old : (d : ℕ) → d < 2 → word-at to (placed r a d) ≡ word-at from (placed r a d)
     old d l =
-        let own : pair-of j (placed r j d) ≡ k = ap (pair-of j) (sym (rows d)) ∙ pair-row j (h .some) k d l in
-        was .left (placed r j d) (placed-lt j (h .some) within r d lr l) (omega arith)
+        let own : pair-of a (placed r a d) ≡ k = ap (pair-of a) (sym (rows d)) ∙ pair-row a some k d l in
+        was .left (placed r a d) (placed-lt a some within r d lr l) (omega arith)
 
-    first : word-at to low ≡ word-at from (placed r j 0)
+    first : word-at to low ≡ word-at from (placed r a 0)
     first = ap (word-at to) low-is ∙ old 0 (omega arith)
 
-    second : word-at to high ≡ word-at from (placed r j 1)
+    second : word-at to high ≡ word-at from (placed r a 1)
     second = ap (word-at to) high-is ∙ old 1 (omega arith)
 
-    next-row : word-at next r ≡ new (place r j)
+    next-row : word-at next r ≡ new (place r a)
     next-row =
-        ⊎-elim (λ p. ap (word-at next) (sym (low-is ∙ placed-own r j 0 p)) ∙ next-low ∙ ap new (sym p))
-        (λ p. ap (word-at next) (sym (high-is ∙ placed-own r j 1 p)) ∙ next-high ∙ ap new (sym p))
-        (place-cases r j)
+        ⊎-elim (λ p. ap (word-at next) (sym (low-is ∙ placed-own r a 0 p)) ∙ next-low ∙ ap new (sym p))
+        (λ p. ap (word-at next) (sym (high-is ∙ placed-own r a 1 p)) ∙ next-high ∙ ap new (sym p))
+        (place-cases r a)
 
-    turned : Crossed j from next r c
+    turned : Crossed a j from next r c
     unfolding new
     turned =
         ap (λ (w : ℕ). has w c) next-row
-        ∙ changed-at j mask (word-at to low) (word-at to high) h (λ d. word-at from (placed r j d)) first second (place r j) c (omega arith) lc
+        ∙ changed-at j mask (word-at to low) (word-at to high) h (λ d. word-at from (placed r a d)) first second (place r a) c (omega arith) lc
 
-  -- one pair more
-  pub one-more : Partly j (k + 1) from (after-pair j mask to k)
+    word : new 0 < 2 ^ node-limit → new 1 < 2 ^ node-limit → word-at next r < 2 ^ node-limit
+    word f₀ f₁ = rw next-row (⊎-elim (λ p. rw p f₀) (λ p. rw p f₁) (place-cases r a))
+
+  -- one pair more, whose new rows are words
+  pub one-more : lower j mask (word-at to (row-of a k)) (word-at to (row-of a k + a)) < 2 ^ node-limit
+      → upper j mask (word-at to (row-of a k)) (word-at to (row-of a k + a)) < 2 ^ node-limit → Partly a j (k + 1) from (after-pair a j mask to k)
   unfolding low high new next
-  one-more = record {
+  one-more f₀ f₁ = record {
     long = simp length-set (was .long);
+    fits = λ r lr l.
+        ⊎-elim (λ lt. rw (next-other r (λ e. omega arith)) (was .fits r lr lt))
+        (λ ge. word r 0 lr (omega arith) (omega arith) f₀ f₁)
+        (by-lt (pair-of a r) k);
     done = λ r c lr lc l.
         ⊎-elim (λ lt. ap (λ (w : ℕ). has w c) (next-other r (λ e. omega arith)) ∙ was .done r c lr lc lt)
         (λ ge. turned r c lr lc (omega arith))
-        (by-lt (pair-of j r) k);
+        (by-lt (pair-of a r) k);
     left = λ r lr l. next-other r (λ e. omega arith) ∙ was .left r lr (omega arith);
   }
 
 -- after the last pair every row is done
-pub ended : (j : ℕ) (from to : List ℕ) → 0 < j → Within j → Partly j unit-pairs from to → Exchanged j from to
-ended j from to some within p = record { long = p .long; at = λ r c lr lc. p .done r c lr lc (pair-lt j some within r lr) }
+pub ended : (a j : ℕ) (from to : List ℕ) → 0 < a → Within a → Partly a j unit-pairs from to → Exchanged a j from to
+ended a j from to some within p = record {
+  long = p .long;
+  fits = λ r lr. p .fits r lr (pair-lt a some within r lr);
+  at = λ r c lr lc. p .done r c lr lc (pair-lt a some within r lr);
+}

@@ -12,7 +12,10 @@ use free_test::NODE_WORDS;
 use free_test::all_zero;
 
 // So many words are turned at a time: as many as stay in registers.
-const UNIT: usize = 16;
+const UNIT: usize = 8;
+
+// So many units there are.
+const UNITS: usize = NODE_WORDS / UNIT;
 
 // From so many nodes on it is quicker to turn all the words than to compare pair by pair.
 const TURNED_FROM: u32 = 16;
@@ -92,68 +95,65 @@ fn upper(x: u64, y: u64, j: u32, mask: u64) -> u64
     y ^ crossing(x, y, j, mask)
 }
 
-// One round of turning the digits of 16 rows: the place j of the row's number and that of the column's change sides.
-fn exchange(rows: &mut [u64; UNIT], j: usize, mask: u64)
-    requires { ⌜ (length (now rows) ≡ unit-rows) × (Within j) × (Half j mask) ⌝ }
-    ensures { λ r. ⌜ Exchanged j (now (rows .entry)) (now (rows .exit)) ⌝ }
+// One round of turning the digits of a unit's rows: the place `apart` of the row's number and the place j of the column's change sides.
+fn exchange(rows: &mut [u64; UNIT], apart: usize, j: u32, mask: u64)
+    requires { ⌜ (length (now rows) ≡ unit-rows) × (0 < apart) × (Within apart) × (Half j mask) ⌝ }
+    ensures { λ r. ⌜ Exchanged apart j (now (rows .entry)) (now (rows .exit)) ⌝ }
 {
     for k in 0..UNIT / 2 {
-        let r = k / j * (2 * j) + k % j;
+        let r = k / apart * (2 * apart) + k % apart;
         let x = rows[r];
-        let y = rows[r + j];
-        rows[r] = lower(x, y, j as u32, mask);
-        rows[r + j] = upper(x, y, j as u32, mask);
+        let y = rows[r + apart];
+        rows[r] = lower(x, y, j, mask);
+        rows[r + apart] = upper(x, y, j, mask);
     }
 }
 
-// Turns 16 rows, each 16 columns by themselves.
-fn turn_unit(links: &[u64], turned: &mut [u64])
-    requires { ⌜ (length (now links) ≡ unit-rows) × (length (now turned) ≡ unit-rows) ⌝ }
-    ensures { λ r. ⌜ UnitTurned (now (links .entry)) (now (turned .exit)) ⌝ }
+// Turns the 8 rows from start on, each 8 columns by themselves, and writes them to the same place.
+fn turn_unit(links: &[u64], start: usize, turned: &mut [u64; NODE_WORDS])
+    requires { ⌜ (length (now links) ≡ node-limit) × (length (now turned) ≡ node-limit) × (start + unit-rows ≤ node-limit) ⌝ }
+    ensures { λ r. ⌜ UnitTurned start (now (links .entry)) (now (turned .entry)) (now (turned .exit)) ⌝ }
 {
     let mut rows = [0u64; UNIT];
     for k in 0..UNIT {
-        rows[k] = links[k];
+        rows[k] = links[start + k];
     }
-    exchange(&mut rows, 8, EIGHTS);
-    exchange(&mut rows, 4, FOURS);
-    exchange(&mut rows, 2, PAIRS);
-    exchange(&mut rows, 1, EVENS);
+    exchange(&mut rows, 4, 4, FOURS);
+    exchange(&mut rows, 2, 2, PAIRS);
+    exchange(&mut rows, 1, 1, EVENS);
     for k in 0..UNIT {
-        turned[k] = rows[k];
+        turned[start + k] = rows[k];
     }
 }
 
-// What differs between the connections of the nodes k, 16 + k, 32 + k and 48 + k and their columns, where the units are turned: the rounds at 16 and 32.
+// What differs between the connections of the nodes k, 8 + k, 16 + k and so on and their columns, where the units are turned: the rounds at 32, 16 and 8.
 fn off_by_units(links: &[u64], turned: &[u64], k: usize) -> u64
     requires { ⌜ (length (now links) ≡ node-limit) × (length (now turned) ≡ node-limit) × (k < unit-rows) × (TurnedBelow units (now links) (now turned)) ⌝ }
     ensures { λ r. ⌜ empty r ≡ units-mutual (now (links .entry)) k ⌝ }
 {
-    let w = lower(turned[k], turned[UNIT + k], 16, SIXTEENS);
-    let x = upper(turned[k], turned[UNIT + k], 16, SIXTEENS);
-    let y = lower(turned[2 * UNIT + k], turned[3 * UNIT + k], 16, SIXTEENS);
-    let z = upper(turned[2 * UNIT + k], turned[3 * UNIT + k], 16, SIXTEENS);
-    let low = (lower(w, y, 32, LOW_HALF) ^ links[k])
-        | (lower(x, z, 32, LOW_HALF) ^ links[UNIT + k]);
-    let high = (upper(w, y, 32, LOW_HALF) ^ links[2 * UNIT + k])
-        | (upper(x, z, 32, LOW_HALF) ^ links[3 * UNIT + k]);
-    low | high
+    let mut rows = [0u64; UNIT];
+    for u in 0..UNITS {
+        rows[u] = turned[UNIT * u + k];
+    }
+    exchange(&mut rows, 4, 32, LOW_HALF);
+    exchange(&mut rows, 2, 16, SIXTEENS);
+    exchange(&mut rows, 1, 8, EIGHTS);
+    let mut off: u64 = 0;
+    for u in 0..UNITS {
+        off = off | (rows[u] ^ links[UNIT * u + k]);
+    }
+    off
 }
 
-// Whether the connections between all 64 nodes are mutual: turned about the diagonal, the words are the same. A unit is turned at each of four places, so that the
-// compiler keeps what turning needs of the stack out of the frame in which the names are tested.
+// Whether the connections between all 64 nodes are mutual: turned about the diagonal, the words are the same.
 fn turned_mutual(links: &[u64]) -> bool
     requires { ⌜ length (now links) ≡ node-limit ⌝ }
     ensures { λ r. ⌜ r ≡ own-mutual (now (links .entry)) node-limit ⌝ }
 {
     let mut turned = [0u64; NODE_WORDS];
-    turn_unit(&links[0..UNIT], &mut turned[0..UNIT]);
-    turn_unit(&links[UNIT..2 * UNIT], &mut turned[UNIT..2 * UNIT]);
-    turn_unit(&links[2 * UNIT..3 * UNIT], &mut turned[2 * UNIT..3 * UNIT]);
-    turn_unit(
-        &links[3 * UNIT..NODE_WORDS],
-        &mut turned[3 * UNIT..NODE_WORDS],
-    );
+    for u in 0..UNITS {
+        turn_unit(links, UNIT * u, &mut turned);
+    }
     let mut off: u64 = 0;
     for k in 0..UNIT {
         off = off | off_by_units(links, &turned, k);

@@ -1,219 +1,148 @@
--- `links_test::off_by_units` meets its contract: the rounds at 16 and 32 make the nodes' columns of the turned rows.
+-- `links_test::off_by_units` meets its contract: the rows taken of the units passed are turned, and what is gathered is zero where the nodes passed are mutual.
 -- Assumes nothing.
 use borrow.Author.Needs.{needs}
+use mathlib.Core.Path.{_≡_, sym}
+use Prim.Native.Nat.{_+_, _-_, _*_, _≤_}
 use native.Mathlib.Omega.{arith}
-use Rattle.links_test.specs.Turning.{none-off}
+use Rattle.nodes.specs.Sets.{node-limit, empty, word-at}
+use Rattle.free_test.specs.WireTests.{all-below, both-ways}
+use Rattle.free_test.specs.Below.{below-none}
+use Rattle.free_test.specs.Gather.{compared}
+use Rattle.links_test.specs.Exchange.{unit-rows}
+use Rattle.links_test.specs.Turning.{units, Copied, none-copied, one-copied, turned-wide, same-row, half-8, half-16, half-32}
 use Rattle.links_test.proofs.off_by_units.Statement.{statement}
 use Rattle.links_test.proofs.off_by_units.Tie as tie
 
-mul-lower : tie.Need-mul-lower
-mul-lower c = search needs
+abbrev Inv-loop : tie.InvT-loop
+Inv-loop links turned k rows₀ u₀ rows u = (u ≤ units) × (Copied 0 u (λ i. word-at turned (unit-rows * i + k)) rows₀ rows)
 
-shared-slice-read-lower : tie.Need-shared-slice-read-lower
-shared-slice-read-lower c = search needs
+abbrev μ-loop : tie.MeasureT-loop
+μ-loop links turned k rows₀ u₀ rows u = units - u
 
-add-lower : tie.Need-add-lower
-add-lower c = search needs
+abbrev Inv-loop2 : tie.InvT-loop2
+Inv-loop2 links turned k rows off₀ u₀ off u = (u ≤ units) × (empty off ≡ all-below u (λ i. all-below node-limit (both-ways links (unit-rows * i + k))))
 
-mul-lower-2 : tie.Need-mul-lower-2
-mul-lower-2 c = search needs
+abbrev μ-loop2 : tie.MeasureT-loop2
+μ-loop2 links turned k rows off₀ u₀ off u = units - u
 
-shared-slice-read-lower-2 : tie.Need-shared-slice-read-lower-2
-shared-slice-read-lower-2 c = search needs
+loop-holds : tie.Need-loop-holds Inv-loop μ-loop Inv-loop2 μ-loop2
+loop-holds c = (search needs, none-copied 0 _ _)
 
-lower-requires : tie.Need-lower-requires
-lower-requires c κs = search needs
+mul-rows : tie.Need-mul-rows Inv-loop μ-loop Inv-loop2 μ-loop2
+mul-rows c = search needs
 
-mul-upper : tie.Need-mul-upper
-mul-upper c = search needs
+add-rows : tie.Need-add-rows Inv-loop μ-loop Inv-loop2 μ-loop2
+add-rows c = search needs
 
-shared-slice-read-upper : tie.Need-shared-slice-read-upper
-shared-slice-read-upper c = search needs
+mul-rows-2 : tie.Need-mul-rows-2 Inv-loop μ-loop Inv-loop2 μ-loop2
+mul-rows-2 c = search needs
 
-add-upper : tie.Need-add-upper
-add-upper c = search needs
+shared-slice-read-rows : tie.Need-shared-slice-read-rows Inv-loop μ-loop Inv-loop2 μ-loop2
+shared-slice-read-rows c = search needs
 
-mul-upper-2 : tie.Need-mul-upper-2
-mul-upper-2 c = search needs
+mul-rows-3 : tie.Need-mul-rows-3 Inv-loop μ-loop Inv-loop2 μ-loop2
+mul-rows-3 c = search needs
 
-shared-slice-read-upper-2 : tie.Need-shared-slice-read-upper-2
-shared-slice-read-upper-2 c = search needs
+array-write-rows : tie.Need-array-write-rows Inv-loop μ-loop Inv-loop2 μ-loop2
+array-write-rows c = search needs
 
-upper-requires : tie.Need-upper-requires
-upper-requires c κs = search needs
+add-u : tie.Need-add-u Inv-loop μ-loop Inv-loop2 μ-loop2
+add-u c = search needs
 
-mul-lower-3 : tie.Need-mul-lower-3
-mul-lower-3 c = search needs
+loop-less : tie.Need-loop-less Inv-loop μ-loop Inv-loop2 μ-loop2
+loop-less c = search needs
 
-add-lower-2 : tie.Need-add-lower-2
-add-lower-2 c = search needs
+loop-again : tie.Need-loop-again Inv-loop μ-loop Inv-loop2 μ-loop2
+loop-again c =
+    let at = c .before .before .loop in
+    let a = c .before .before .before .before .before .args in
+    (search needs, one-copied 0 (at .u) (at .u) (λ i. word-at (a .turned .now) (unit-rows * i + a .k)) _ (at .rows) (omega arith) (omega (arith, at .inv .1 .long)) (at .inv .1))
 
-mul-lower-4 : tie.Need-mul-lower-4
-mul-lower-4 c = search needs
+exchange-requires : tie.Need-exchange-requires Inv-loop μ-loop Inv-loop2 μ-loop2
+exchange-requires c κs = (search needs, search needs, search needs, half-32)
 
-shared-slice-read-lower-3 : tie.Need-shared-slice-read-lower-3
-shared-slice-read-lower-3 c = search needs
+exchange-requires-2 : tie.Need-exchange-requires-2 Inv-loop μ-loop Inv-loop2 μ-loop2
+exchange-requires-2 c κs = (search needs, search needs, search needs, half-16)
 
-mul-lower-5 : tie.Need-mul-lower-5
-mul-lower-5 c = search needs
+exchange-requires-3 : tie.Need-exchange-requires-3 Inv-loop μ-loop Inv-loop2 μ-loop2
+exchange-requires-3 c κs = (search needs, search needs, search needs, half-8)
 
-add-lower-3 : tie.Need-add-lower-3
-add-lower-3 c = search needs
+loop2-holds : tie.Need-loop2-holds Inv-loop μ-loop Inv-loop2 μ-loop2
+loop2-holds c = (search needs, sym (below-none _))
 
-mul-lower-6 : tie.Need-mul-lower-6
-mul-lower-6 c = search needs
+mul-off : tie.Need-mul-off Inv-loop μ-loop Inv-loop2 μ-loop2
+mul-off c = search needs
 
-shared-slice-read-lower-4 : tie.Need-shared-slice-read-lower-4
-shared-slice-read-lower-4 c = search needs
+array-read-off : tie.Need-array-read-off Inv-loop μ-loop Inv-loop2 μ-loop2
+array-read-off c = search needs
 
-lower-requires-2 : tie.Need-lower-requires-2
-lower-requires-2 c κs = search needs
+mul-off-2 : tie.Need-mul-off-2 Inv-loop μ-loop Inv-loop2 μ-loop2
+mul-off-2 c = search needs
 
-mul-upper-3 : tie.Need-mul-upper-3
-mul-upper-3 c = search needs
+add-off : tie.Need-add-off Inv-loop μ-loop Inv-loop2 μ-loop2
+add-off c = search needs
 
-add-upper-2 : tie.Need-add-upper-2
-add-upper-2 c = search needs
+mul-off-3 : tie.Need-mul-off-3 Inv-loop μ-loop Inv-loop2 μ-loop2
+mul-off-3 c = search needs
 
-mul-upper-4 : tie.Need-mul-upper-4
-mul-upper-4 c = search needs
+shared-slice-read-off : tie.Need-shared-slice-read-off Inv-loop μ-loop Inv-loop2 μ-loop2
+shared-slice-read-off c = search needs
 
-shared-slice-read-upper-3 : tie.Need-shared-slice-read-upper-3
-shared-slice-read-upper-3 c = search needs
+add-u-2 : tie.Need-add-u-2 Inv-loop μ-loop Inv-loop2 μ-loop2
+add-u-2 c = search needs
 
-mul-upper-5 : tie.Need-mul-upper-5
-mul-upper-5 c = search needs
+loop2-less : tie.Need-loop2-less Inv-loop μ-loop Inv-loop2 μ-loop2
+loop2-less c = search needs
 
-add-upper-3 : tie.Need-add-upper-3
-add-upper-3 c = search needs
+loop2-again : tie.Need-loop2-again Inv-loop μ-loop Inv-loop2 μ-loop2
+loop2-again c =
+    let at = c .before .before .loop2 in
+    let third = c .before .before .before in
+    let second = third .before .before in
+    let first = second .before .before in
+    let copied = first .before .before .before .loop in
+    let start = first .before .before .before .before .before .before in
+    let all : copied .u ≡ units = omega arith in (
+      search needs,
+      compared (at .off) (word-at (third .exchange3 .last .0) (at .u)) (word-at (start .args .links .now) (unit-rows * at .u + start .args .k)) (at .u) _ (at .inv .1)
+          (same-row _ _ _ _ _ _ (start .pre .2) (start .pre .3) (λ i. c .shared-slice-known4 .given i .fits) (rw all at (copied .inv .1))
+          (turned-wide _ _ _ _ (first .exchange .ensures) (second .exchange2 .ensures) (third .exchange3 .ensures)) (at .u) (omega arith) (third .exchange3 .ensures .fits (at .u) (omega arith))),
+    )
 
-mul-upper-6 : tie.Need-mul-upper-6
-mul-upper-6 c = search needs
-
-shared-slice-read-upper-4 : tie.Need-shared-slice-read-upper-4
-shared-slice-read-upper-4 c = search needs
-
-upper-requires-2 : tie.Need-upper-requires-2
-upper-requires-2 c κs = search needs
-
-lower-requires-3 : tie.Need-lower-requires-3
-lower-requires-3 c κs = search needs
-
-mul-low : tie.Need-mul-low
-mul-low c = search needs
-
-shared-slice-read-low : tie.Need-shared-slice-read-low
-shared-slice-read-low c = search needs
-
-lower-requires-4 : tie.Need-lower-requires-4
-lower-requires-4 c κs = search needs
-
-add-low : tie.Need-add-low
-add-low c = search needs
-
-mul-low-2 : tie.Need-mul-low-2
-mul-low-2 c = search needs
-
-shared-slice-read-low-2 : tie.Need-shared-slice-read-low-2
-shared-slice-read-low-2 c = search needs
-
-upper-requires-3 : tie.Need-upper-requires-3
-upper-requires-3 c κs = search needs
-
-mul-high : tie.Need-mul-high
-mul-high c = search needs
-
-add-high : tie.Need-add-high
-add-high c = search needs
-
-mul-high-2 : tie.Need-mul-high-2
-mul-high-2 c = search needs
-
-shared-slice-read-high : tie.Need-shared-slice-read-high
-shared-slice-read-high c = search needs
-
-upper-requires-4 : tie.Need-upper-requires-4
-upper-requires-4 c κs = search needs
-
-mul-high-3 : tie.Need-mul-high-3
-mul-high-3 c = search needs
-
-add-high-2 : tie.Need-add-high-2
-add-high-2 c = search needs
-
-mul-high-4 : tie.Need-mul-high-4
-mul-high-4 c = search needs
-
-shared-slice-read-high-2 : tie.Need-shared-slice-read-high-2
-shared-slice-read-high-2 c = search needs
-
-returns : tie.Need-returns
+returns : tie.Need-returns Inv-loop μ-loop Inv-loop2 μ-loop2
 returns c =
-    let v₃ = c .before .upper4 in
-    let v₂ = c .before .before .before .upper3 in
-    let v₁ = c .before .before .before .before .before .lower4 in
-    let third = c .before .before .before .before .before .before .before in
-    let v₀ = third .lower3 in
-    let z = third .before .upper2 in
-    let y = third .before .before .before .before .lower2 in
-    let second = third .before .before .before .before .before .before .before in
-    let x = second .upper in
-    let w = second .before .before .before .lower in
-    let start = second .before .before .before .before .before .before .before .before in
-    none-off (start .args .links .now) (start .args .turned .now) (start .args .k) (start .pre .2) (start .pre .3)
-    (λ i. c .shared-slice-known14 .given i .fits) (v₀ .result) (v₁ .result) (v₂ .result) (v₃ .result) (omega (arith, v₀ .ok, v₁ .ok, v₂ .ok, v₃ .ok))
-    (rw (w .ensures, y .ensures) at (v₀ .ensures)) (rw (x .ensures, z .ensures) at (v₁ .ensures)) (rw (w .ensures, y .ensures) at (v₂ .ensures))
-    (rw (x .ensures, z .ensures) at (v₃ .ensures))
+    let end : c .before .loop2 .u ≡ units = omega arith in
+    rw end at (c .before .loop2 .inv .1)
 
 pub off-by-units-spec : {M : Type 1} → statement M
 off-by-units-spec =
     tie.close
     (tie.spec
-    mul-lower
-    shared-slice-read-lower
-    add-lower
-    mul-lower-2
-    shared-slice-read-lower-2
-    lower-requires
-    mul-upper
-    shared-slice-read-upper
-    add-upper
-    mul-upper-2
-    shared-slice-read-upper-2
-    upper-requires
-    mul-lower-3
-    add-lower-2
-    mul-lower-4
-    shared-slice-read-lower-3
-    mul-lower-5
-    add-lower-3
-    mul-lower-6
-    shared-slice-read-lower-4
-    lower-requires-2
-    mul-upper-3
-    add-upper-2
-    mul-upper-4
-    shared-slice-read-upper-3
-    mul-upper-5
-    add-upper-3
-    mul-upper-6
-    shared-slice-read-upper-4
-    upper-requires-2
-    lower-requires-3
-    mul-low
-    shared-slice-read-low
-    lower-requires-4
-    add-low
-    mul-low-2
-    shared-slice-read-low-2
-    upper-requires-3
-    mul-high
-    add-high
-    mul-high-2
-    shared-slice-read-high
-    upper-requires-4
-    mul-high-3
-    add-high-2
-    mul-high-4
-    shared-slice-read-high-2
+    Inv-loop
+    μ-loop
+    Inv-loop2
+    μ-loop2
+    loop-holds
+    mul-rows
+    add-rows
+    mul-rows-2
+    shared-slice-read-rows
+    mul-rows-3
+    array-write-rows
+    add-u
+    loop-less
+    loop-again
+    exchange-requires
+    exchange-requires-2
+    exchange-requires-3
+    loop2-holds
+    mul-off
+    array-read-off
+    mul-off-2
+    add-off
+    mul-off-3
+    shared-slice-read-off
+    add-u-2
+    loop2-less
+    loop2-again
     returns)

@@ -4,9 +4,10 @@ use crate::api::{self, Api};
 use crate::call::{calls, Asked, Lent, Which};
 use crate::commands::{free_rows, main_cases, roomy};
 use crate::index_api::{self, IndexApi};
-use crate::index_call::call;
-use crate::indexes;
+use crate::index_call::{self, call, Called};
+use crate::indexes::{self, StackRow};
 use crate::launches::{called, stack_rows};
+use crate::strangers::STRANGER;
 use crate::tables::{dense, one_slot_and_mark, table, two_free_groups, FULL};
 use model::prng::Prng;
 
@@ -107,11 +108,14 @@ fn measure(seed: u64) -> Vec<(String, usize)> {
     for which in Which::COMMANDS {
         all.push((format!("{which:?}"), command(&mut prng, which)));
     }
-    for row in indexes::stack_rows(&mut prng) {
-        let deepest = row.calls.into_iter().map(|(mut lent, asked)| {
-            taken(&mut |side| u64::from(call(side.index, row.called, &mut lent, &asked)))
-        });
-        all.push((row.what, deepest.max().unwrap_or(0)));
+    for StackRow {
+        what,
+        called,
+        calls,
+    } in indexes::stack_rows(&mut prng)
+    {
+        let deepest = calls.map(|(lent, asked)| with_index(&what, called, lent, &asked));
+        all.push((what, deepest.into_iter().max().unwrap_or(0)));
     }
     for (what, given) in stack_rows(&mut prng) {
         let mut lent = Lent::new(&tables[0]);
@@ -124,19 +128,36 @@ fn measure(seed: u64) -> Vec<(String, usize)> {
 /// Tables of 64 nodes on which the test has most to do: full ones, with every connection, with pids that no slot and no mark tells apart, and free groups.
 fn worst_tables(prng: &mut Prng) -> [Vec<u64>; 4] {
     let full = table(prng, FULL);
-    [
+    let tables = [
         full.clone(),
         dense(full),
         one_slot_and_mark(prng),
         two_free_groups(prng),
-    ]
+    ];
+    tables.map(sound)
+}
+
+/// The table, which is sound: the test goes to its end, and a command to its step.
+fn sound(words: Vec<u64>) -> Vec<u64> {
+    let found = unsafe { (PROVED.api.is_sound)(words.as_ptr(), words.len()) };
+    assert!(found, "a table whose stack is measured is not sound");
+    words
+}
+
+/// What one call with an index takes, which is done.
+fn with_index(what: &str, which: Called, mut lent: index_call::Lent, asked: &Asked) -> usize {
+    lent.table = sound(lent.table);
+    let bytes = taken(&mut |side| u64::from(call(side.index, which, &mut lent, asked)));
+    let reason = lent.answer[3];
+    assert!(matches!(reason, 0 | STRANGER), "{what} has reason {reason}");
+    bytes
 }
 
 /// The deepest of many calls of a command on nearly full tables, with every connection and without, and of its calls that move most free nodes.
 fn command(prng: &mut Prng, which: Which) -> usize {
     let nearly = table(prng, roomy(FULL));
     let mut bytes = 0;
-    for words in [dense(nearly.clone()), nearly] {
+    for words in [dense(nearly.clone()), nearly].map(sound) {
         let asked = main_cases(prng, which, &words, CALLS);
         bytes = bytes.max(worst(which, &words, &asked));
     }

@@ -60,7 +60,7 @@ abbrev pub upper : ℕ → ℕ → ℕ → ℕ → ℕ
 upper j mask x y = bitXor y (crossing j mask x y)
 
 -- row d of the two
-abbrev pub changed : ℕ → ℕ → ℕ → ℕ → ℕ → ℕ
+abbrev changed : ℕ → ℕ → ℕ → ℕ → ℕ → ℕ
 changed j mask x y zero = lower j mask x y
 changed j mask x y (suc d) = upper j mask x y
 
@@ -234,7 +234,7 @@ module _ (j mask x y : ℕ) (h : Half j mask) where
       has-xor x moved c ∙ ap (λ (t : Bool). not (Bool·beq (has x c) t)) in-first ∙ differs-on (has x c) (has y (placed c j 0))
 
   -- the digits of the new rows, where w has the old ones by their place
-  pub changed-at : (w : ℕ → ℕ) → x ≡ w 0 → y ≡ w 1 → (d c : ℕ) → d < 2 → c < node-limit
+  changed-at : (w : ℕ → ℕ) → x ≡ w 0 → y ≡ w 1 → (d c : ℕ) → d < 2 → c < node-limit
       → has (changed j mask x y d) c ≡ has (w (place c j)) (placed c j d)
   changed-at w first second zero c ld lc =
       ⊎-elim (λ e. lower-first c lc e ∙ ap (λ (v : ℕ). has v (placed c j 0)) (first ∙ ap w (sym e)))

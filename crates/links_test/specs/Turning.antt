@@ -120,7 +120,7 @@ turned-alone b₀ b₁ b₂ b₃ x₁ x₂ x₃ =
 pub turned-wide : (b₀ b₁ b₂ b₃ : List ℕ) → Exchanged 4 32 b₀ b₁ → Exchanged 2 16 b₁ b₂ → Exchanged 1 8 b₂ b₃ → Turned unit-rows 1 b₀ b₃
 unfolding all-below
 turned-wide b₀ b₁ b₂ b₃ x₁ x₂ x₃ =
-    turned-more 8 1 b₀ b₂ b₃ refl (turned-more 8 2 b₀ b₁ b₂ refl (turned-more 8 4 b₀ b₀ b₁ refl (turned-none 8 b₀ refl) x₁) x₂) x₃
+    turned-more unit-rows 1 b₀ b₂ b₃ refl (turned-more unit-rows 2 b₀ b₁ b₂ refl (turned-more unit-rows 4 b₀ b₀ b₁ refl (turned-none unit-rows b₀ refl) x₁) x₂) x₃
 
 -- the rounds of a unit, from words that were copied and back
 pub unit-turned : (start : ℕ) (links zeros rows done before after : List ℕ) → Copied 0 unit-rows (λ i. word-at links (start + i)) zeros rows

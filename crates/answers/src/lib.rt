@@ -6,7 +6,7 @@ ghost use Rattle.answers.specs.declared.Value.TheVariants.{Error};
 ghost use Rattle.answers.specs.declared.Reason.TheVariants.{Done};
 
 // The value of an answer.
-#[derive(Drop)]
+#[derive(Clone, Copy)]
 pub enum Value {
     // opening went through
     Ok,
@@ -24,7 +24,7 @@ pub enum Value {
 }
 
 // Why.
-#[derive(Drop)]
+#[derive(Clone, Copy)]
 pub enum Reason {
     Done,
     TableLength,
@@ -52,7 +52,7 @@ pub enum Reason {
 }
 
 // What a call answers.
-#[derive(Drop)]
+#[derive(Clone, Copy)]
 pub struct Answer {
     pub value: Value,
     pub reason: Reason,

@@ -1,5 +1,5 @@
 // The fifteen commands in document 01's order: s is an s_group, n a process name, p a pid, node the node that is asked, set a set of nodes.
-#[derive(Drop)]
+#[derive(Clone, Copy)]
 pub enum Command {
     RegisterName { s: u32, n: u32, p: u32 },
     ReRegisterName { s: u32, n: u32, p: u32 },

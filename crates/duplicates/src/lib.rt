@@ -10,7 +10,7 @@ ghost use Rattle.duplicates.specs.Next.{next_group};
 use walk::{Atom, Entry, Node, Step, node_at};
 
 // The next group of the list: where its name begins and ends, the place of its first node, and the place behind it; or no group is left.
-#[derive(Drop)]
+#[derive(Clone, Copy)]
 pub enum Found {
     Group(usize, usize, usize, usize),
     End,

@@ -8,7 +8,7 @@ pub const PIDS_PER_HOST: u32 = 67108864;
 
 // What a search finds: the index of the name's word and its pid, that the name is not held, or that the count is past
 // the end of the run.
-#[derive(Drop)]
+#[derive(Clone, Copy)]
 pub enum Found {
     At(usize, u32),
     Absent,
@@ -17,7 +17,7 @@ pub enum Found {
 
 // What a lookup tells of a name by a set of nodes: its pid, whose host is in the set or outside it; that the name is not held; or that the count
 // is past the end of the run.
-#[derive(Drop)]
+#[derive(Clone, Copy)]
 pub enum Seen {
     Inside(u32),
     Outside(u32),
@@ -26,7 +26,7 @@ pub enum Seen {
 }
 
 // Whether a pid is held, or that the count is past the end of the run.
-#[derive(Drop)]
+#[derive(Clone, Copy)]
 pub enum Held {
     Yes,
     No,
@@ -34,7 +34,7 @@ pub enum Held {
 }
 
 // What became of a change: done, the name is not held, no word is free, or the count is past the end of the run.
-#[derive(Drop)]
+#[derive(Clone, Copy)]
 pub enum Change {
     Done,
     Absent,
@@ -43,7 +43,7 @@ pub enum Change {
 }
 
 // So many words, or that the count is past the end of a run.
-#[derive(Drop)]
+#[derive(Clone, Copy)]
 pub enum Counted {
     Of(usize),
     Unfit,

@@ -40,14 +40,14 @@ pub const OWN_S_GROUPS: u32 = 15;
 pub const NONE: u32 = 0;
 
 // The command of a number, or none.
-#[derive(Drop)]
+#[derive(Clone, Copy)]
 pub enum Formed {
     Is(Command),
     Nothing,
 }
 
 // A command word, or none of them.
-#[derive(Drop)]
+#[derive(Clone, Copy)]
 enum Word {
     RegisterName,
     ReRegisterName,

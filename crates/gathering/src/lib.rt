@@ -9,14 +9,14 @@ ghost use Rattle.gathering.specs.Gathering.{seen, Noded, Planned};
 use walk::{Atom, Entry, Step};
 
 // The groups as a plan: how many, and the place behind their list; or something about them wants a closer look.
-#[derive(Drop)]
+#[derive(Clone, Copy)]
 pub enum Gathered {
     Made(usize, usize),
     Unclear,
 }
 
 // The nodes of a group by the book, and the place behind the group; or one is not on the roster, or the text stops.
-#[derive(Drop)]
+#[derive(Clone, Copy)]
 enum Met {
     Are(u64, usize),
     Unknown,

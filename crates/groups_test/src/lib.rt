@@ -12,7 +12,7 @@ use namespace_test::SLOT_COUNT;
 const KNOWN_FROM: usize = 6;
 
 // What contents and members come to: the nodes that are in an s_group, or that something is wrong with them.
-#[derive(Drop)]
+#[derive(Clone, Copy)]
 pub enum Grouped {
     Nodes(u64),
     Wrong,

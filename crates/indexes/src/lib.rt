@@ -2,7 +2,7 @@
 
 // What a command that is done makes of the rows: nothing; one more, of a key and a name; the one of a key gone; the one of a key gone and
 // another put in; those of an s_group gone whose pid lives on a node of a set.
-#[derive(Drop)]
+#[derive(Clone, Copy)]
 pub enum Update {
     Nothing,
     More(u64, u32),

@@ -21,7 +21,7 @@ use plan::Plan;
 use walk::Step;
 
 // What a launch answers: Ok or Error with its reason, and the place of the file at which it is refused.
-#[derive(Drop)]
+#[derive(Clone, Copy)]
 pub struct Launched {
     pub answer: Answer,
     pub place: usize,
@@ -48,7 +48,7 @@ fn through() -> Launched
 }
 
 // What is found of a file: it is launched, or there is a reason against it, at a place.
-#[derive(Drop)]
+#[derive(Clone, Copy)]
 enum Verdict {
     Through,
     No(Reason, usize),

@@ -8,7 +8,7 @@ const GROUP_ATOMS: usize = 65535;
 
 // What is wrong with a book: a line, counted from 1, is empty, too long or without a newline; there are fewer lines than nodes, or too many; a line has the atom
 // of one in front of it; or nothing is.
-#[derive(Drop)]
+#[derive(Clone, Copy)]
 pub enum Fault {
     Empty(usize),
     Long(usize),
@@ -20,7 +20,7 @@ pub enum Fault {
 }
 
 // The lines of a text, each taken by itself: all are fine, and there are so many; or what is wrong with the first that is not.
-#[derive(Drop)]
+#[derive(Clone, Copy)]
 enum Lines {
     Fine(usize),
     Empty(usize),

@@ -3,7 +3,7 @@ use duplicates::{Found, next_group};
 use walk::{Node, node_at};
 
 // An atom of a file: where it begins and ends, as the name of a group or as a node of one; or none.
-#[derive(Drop)]
+#[derive(Clone, Copy)]
 pub enum Spot {
     Group(usize, usize),
     Node(usize, usize),

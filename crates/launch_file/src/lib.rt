@@ -10,7 +10,7 @@ use walk::{Atom, Entry, Step, entry_at, sign_at, then_sign};
 
 // A pair of a list: the own one of that list, and the place behind the bracket of its entry; another one, and the place behind
 // it; the end of the list, and the place behind that; or the place where it stops.
-#[derive(Drop)]
+#[derive(Clone, Copy)]
 enum Pair {
     Own(usize),
     Other(usize),
@@ -19,7 +19,7 @@ enum Pair {
 }
 
 // A whole file: the place behind the bracket of its groups; or the place where it is refused.
-#[derive(Drop)]
+#[derive(Clone, Copy)]
 pub enum Reading {
     Whole(usize),
     Refused(usize),

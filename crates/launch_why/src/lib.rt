@@ -10,7 +10,7 @@ use refusal_head::put_place;
 const SHOWN: usize = 64;
 
 // The numbers of a launch: how many nodes there are, which of them are hidden, which one is started.
-#[derive(Drop)]
+#[derive(Clone, Copy)]
 pub struct Asked {
     pub n: u32,
     pub hidden: u64,

@@ -8,7 +8,7 @@ use forms::Formed;
 use text::{Half, Number};
 
 // What a script line asks for.
-#[derive(Drop)]
+#[derive(Clone, Copy)]
 pub enum Request {
     // a fresh table: how many nodes, and the set of hidden ones
     Open(u32, u64),

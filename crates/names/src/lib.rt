@@ -138,7 +138,7 @@ pub fn drop_hosted(t: &mut [u64], at: usize, set: u64)
 }
 
 // What a lookup finds: the pid and the reason beside it, or why there is none.
-#[derive(Drop)]
+#[derive(Clone, Copy)]
 pub enum Lookup {
     Found(u32, Reason),
     Missing(Reason),

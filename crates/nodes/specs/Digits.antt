@@ -88,6 +88,7 @@ bit_single-other (suc i) (suc j) h =
     bit_suc (2 ^ suc i) j ∙ ap (λ (x : ℕ). bit x j) (omega (arith, pow-suc 2 i)) ∙ bit_single-other i j (λ e. h (ap suc e))
 
 pub bit-roster : (n i : ℕ) → i < n → bit (roster n) i ≡ 1
+bit-roster zero i h = elim h [ ]
 bit-roster (suc n) zero h = bit-zero (2 ^ suc n - 1) ∙ omega (arith, pow-suc 2 n, pow_pos n)
 bit-roster (suc n) (suc i) h =
     bit_suc (2 ^ suc n - 1) i ∙ ap (λ (x : ℕ). bit x i) (omega (arith, pow-suc 2 n, pow_pos n)) ∙ bit-roster n i (omega arith)

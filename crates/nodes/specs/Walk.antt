@@ -55,6 +55,7 @@ module _ {A : Type 0} (f : A → ℕ → A) where
 
     upto-first : (n : ℕ) → t < n → upto f s a n ≡ upto f (without_node s t) (f a t) n
     unfolding upto
+    upto-first zero l = elim l [ ]
     upto-first (suc n) l =
         ⊎_elim (λ e. subst (λ (k : ℕ). upto f s a (suc k) ≡ upto f (without_node s t) (f a t) (suc k)) e first)
         (λ k. ap₂ (λ (p : Bool) (x : A). cond p (f x n) x) (other n (λ e. omega arith)) (upto-first n k))
@@ -76,6 +77,7 @@ module _ (ws : List ℕ) (s j : ℕ) where
       go false a = sym (or-false (has a j))
 
   upto-in : (n i : ℕ) → i < n → has s i ≡ true → has (word_at ws i) j ≡ true → has (upto (gather ws) s 0 n) j ≡ true
+  upto-in zero i l m h = elim l [ ]
   upto-in (suc n) i l m h =
       has-upto n
       ∙ ⊎_elim now (λ k. ap (λ (t : Bool). t || (has s n && has (word_at ws n) j)) (upto-in n i k m h)) (eq-or-lt_of_le (le_of_suc-le-suc l))

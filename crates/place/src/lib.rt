@@ -9,14 +9,14 @@ use answers::Reason;
 use layout::{CONTENTS_AT, COUNT_AT, GROUP_NAMES, MEMBERS_AT};
 
 // Where the s_group of a name stands, or where it would be put.
-#[derive(Drop)]
+#[derive(Clone, Copy)]
 pub enum Place {
     At(usize),
     Gap(usize),
 }
 
 // Where the s_group stands that a node is a member of, or why the node has none of the name.
-#[derive(Drop)]
+#[derive(Clone, Copy)]
 pub enum Access {
     Member(usize),
     Denied(Reason),

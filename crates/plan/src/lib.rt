@@ -12,7 +12,7 @@ use duplicates::Found;
 use walk::Node;
 
 // What speaks against the groups, first of all, or how many are to be made.
-#[derive(Drop)]
+#[derive(Clone, Copy)]
 pub enum Plan {
     // the starting node is in a group whose namesakes do not agree
     Clash,
@@ -23,14 +23,14 @@ pub enum Plan {
 }
 
 // The nodes of a group by the book; or one of them is not on the roster.
-#[derive(Drop)]
+#[derive(Clone, Copy)]
 enum Members {
     Are(u64),
     Unknown,
 }
 
 // A group by the book: its number and its nodes; or an atom of it is not there.
-#[derive(Drop)]
+#[derive(Clone, Copy)]
 enum Entered {
     Group(u64, u64),
     Unknown,

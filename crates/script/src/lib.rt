@@ -17,14 +17,14 @@ pub const SCRIPT_LIMIT: usize = 65536;
 const LINE_ROOM: usize = 9 + 21 * (2 + LIST_ROOM + 1) + 1;
 
 // Where a run stopped: the place in the script where it goes on, and how many bytes it printed.
-#[derive(Drop)]
+#[derive(Clone, Copy)]
 pub struct Ran {
     pub next: usize,
     pub len: usize,
 }
 
 // The first line of a script: how many bytes it takes, and what it asks.
-#[derive(Drop)]
+#[derive(Clone, Copy)]
 struct Head {
     size: usize,
     request: Request,

@@ -39,14 +39,14 @@ const START_ARG: usize = 5;
 const ARG_COUNT: usize = 6;
 
 // How many bytes of a text were read, or that it cannot be.
-#[derive(Drop)]
+#[derive(Clone, Copy)]
 enum Loaded {
     Text(usize),
     Nothing,
 }
 
 // The numbers of the arguments, or that one of them is none.
-#[derive(Drop)]
+#[derive(Clone, Copy)]
 enum Numbers {
     Given(Asked),
     Bad,

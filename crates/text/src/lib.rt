@@ -4,14 +4,14 @@ ghost use Rattle.text.specs.Numbers.{plain, numeral, narrow};
 ghost use Rattle.text.specs.Text.{field, fields, find_in};
 
 // A number of 64 bits, or none.
-#[derive(Drop)]
+#[derive(Clone, Copy)]
 pub enum Number {
     Is(u64),
     Bad,
 }
 
 // A number of 32 bits, or none.
-#[derive(Drop)]
+#[derive(Clone, Copy)]
 pub enum Half {
     Is(u32),
     Bad,

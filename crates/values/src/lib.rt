@@ -8,7 +8,7 @@ ghost use Rattle.values.specs.declared.Skip.TheVariants as Skip;
 use tokens::Token;
 
 // What skipping answers: the place behind what is skipped, or the place of the first byte that no value has there.
-#[derive(Drop)]
+#[derive(Clone, Copy)]
 pub enum Skip {
     Behind(usize),
     Stop(usize),

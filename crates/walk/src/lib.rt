@@ -6,14 +6,14 @@ ghost use Rattle.walk.specs.Groups.{pass_nodes, pass_groups};
 use tokens::{Token, past_white};
 
 // A sign or a given word: the place behind it, or the place where it stops.
-#[derive(Drop)]
+#[derive(Clone, Copy)]
 pub enum Step {
     Past(usize),
     Stop(usize),
 }
 
 // An atom: where its name begins and ends, and the place behind it; or the place where it stops.
-#[derive(Drop)]
+#[derive(Clone, Copy)]
 pub enum Atom {
     Is(usize, usize, usize),
     Stop(usize),
@@ -21,7 +21,7 @@ pub enum Atom {
 
 // A node of a group: where its name begins and ends, and the place behind its comma; the last one, and the place behind the whole group; or the place where
 // it stops.
-#[derive(Drop)]
+#[derive(Clone, Copy)]
 pub enum Node {
     More(usize, usize, usize),
     Last(usize, usize, usize),
@@ -30,7 +30,7 @@ pub enum Node {
 
 // What stands in the list of groups: a group, and the place behind its bracket; the end of the list, and the place behind that; or the place of a byte that is
 // neither.
-#[derive(Drop)]
+#[derive(Clone, Copy)]
 pub enum Entry {
     Group(usize),
     Closed(usize),

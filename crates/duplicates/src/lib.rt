@@ -3,7 +3,7 @@ ghost use Rattle.std.specs.Prelude.{◌≡◌, not, ◌||◌, take};
 ghost use Rattle.tokens.specs.Reserved.{same, among};
 ghost use Rattle.walk.specs.Walk.{part};
 ghost use Rattle.walk.specs.Groups.{nodes, groups};
-ghost use Rattle.walk.specs.Unfold.{inside};
+ghost use Rattle.walk.specs.Unfold.{IsInside};
 ghost use Rattle.duplicates.specs.Duplicates.{covered, equal_nodes, agreed, named, made, torn, clash};
 ghost use Rattle.duplicates.specs.Next.{next_group};
 
@@ -83,7 +83,7 @@ fn equal_nodes(text: &[u8], at: usize, other: usize) -> bool
 
 // Whether a group, whose name goes from s to e and whose nodes stand at m, has another name or the nodes at a place. At its own place it has its own nodes.
 fn agrees(text: &[u8], s: usize, e: usize, m: usize, name: &[u8], at: usize) -> bool
-    requires { inside text.now s e }
+    requires { IsInside text.now s e }
     ensures { result ≡ (not (same (part text.now s e) name.now) || equal_nodes (nodes text.now m) (nodes text.now at)) }
 {
     if m == at {

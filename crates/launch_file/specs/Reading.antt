@@ -4,7 +4,7 @@ use Rattle.grammar.specs.File.{Group, Level, file, kernel, Here, Phase, sign, fi
 use Rattle.grammar.specs.Steps.{from}
 use Rattle.walk.specs.Walk.{dark, sign_at, then_sign}
 use Rattle.walk.specs.Groups.{groups}
-use Rattle.walk.specs.Unfold.{ahead}
+use Rattle.walk.specs.Unfold.{IsAhead}
 use Rattle.walk.specs.Atoms.{passed}
 use Rattle.walk.specs.declared.Step.{Step}
 use Rattle.walk.specs.declared.Step.TheVariants as Step
@@ -41,7 +41,7 @@ paired h t (Pair.Stop p) = refused p
 -- behind another pair the text goes on ahead; the own pair stands once, and the list ends behind it alone
 abbrev pub PairOn : List ℕ → ℕ → Bool → Pair → Type 0
 PairOn t at found (Pair.Own n) = found ≡ false
-PairOn t at found (Pair.Other n) = ahead t at n
+PairOn t at found (Pair.Other n) = IsAhead t at n
 PairOn t at found (Pair.Closed n) = found ≡ true
 PairOn t at found (Pair.Stop p) = Unit {0}
 

@@ -6,7 +6,7 @@ use Rattle.semantics.specs.Call.{call}
 use Rattle.semantics.specs.Marked.{claim}
 use Rattle.semantics.specs.Compute.{computing}
 use Rattle.semantics.specs.Edges.{table_of}
-use Rattle.semantics.specs.LeavingEdges.{pid_on, AtNode, two_groups, store, every_node, full_store, less_one}
+use Rattle.semantics.specs.LeavingEdges.{pid_on, at_node, two_groups, store, every_node, full_store, less_one}
 use Rattle.answers.specs.declared.Value.TheVariants.{True, Undefined, Pid, Grouped}
 use Rattle.answers.specs.declared.Reason.TheVariants.{Done, NotRegistered, HostOutside}
 
@@ -60,7 +60,7 @@ added = (refl, refl, refl)
 
 -- it leaves again, and takes its name along
 abbrev pub gone : List ℕ
-gone = table_of 4 0 (two_groups 7 (AtNode 0 70 ∷ AtNode 1 71 ∷ AtNode 2 72 ∷ [])) (14 ∷ 13 ∷ 11 ∷ 7 ∷ []) (0 ∷ 0 ∷ 0 ∷ 8 ∷ [])
+gone = table_of 4 0 (two_groups 7 (at_node 0 70 ∷ at_node 1 71 ∷ at_node 2 72 ∷ [])) (14 ∷ 13 ∷ 11 ∷ 7 ∷ []) (0 ∷ 0 ∷ 0 ∷ 8 ∷ [])
 
 pub left_again : (call 0 0 (RemoveNodes 5 8) joined ≡ claim True Done gone) × (call 0 0 (WhereisName 5 73) gone ≡ claim Undefined NotRegistered gone)
 unfolding computing
@@ -73,7 +73,7 @@ added-elsewhere = refl
 
 -- a pid of node 1 that node 0 registered
 abbrev pub registered_for_1 : List ℕ
-registered_for_1 = store 7 (AtNode 0 70 ∷ AtNode 1 71 ∷ AtNode 2 72 ∷ AtNode 3 73 ∷ AtNode 1 74 ∷ []) (0 ∷ 0 ∷ 0 ∷ 8 ∷ [])
+registered_for_1 = store 7 (at_node 0 70 ∷ at_node 1 71 ∷ at_node 2 72 ∷ at_node 3 73 ∷ at_node 1 74 ∷ []) (0 ∷ 0 ∷ 0 ∷ 8 ∷ [])
 
 -- leaves with node 1, whoever registered it, and leaves no stranger behind
 pub no_stranger_left : (call 0 0 (RegisterName 5 74 (pid_on 1 74)) full_store ≡ claim True Done registered_for_1)
@@ -84,7 +84,7 @@ no_stranger_left = (refl, refl, refl)
 
 -- 70 stands for a pid of node 3
 abbrev pub moved_out : List ℕ
-moved_out = store 7 (AtNode 3 70 ∷ AtNode 1 71 ∷ AtNode 2 72 ∷ AtNode 3 73 ∷ []) (0 ∷ 0 ∷ 0 ∷ 8 ∷ [])
+moved_out = store 7 (at_node 3 70 ∷ at_node 1 71 ∷ at_node 2 72 ∷ at_node 3 73 ∷ []) (0 ∷ 0 ∷ 0 ∷ 8 ∷ [])
 
 -- a name is registered anew for a stranger, and for a member again
 pub re_registered : (call 0 0 (ReRegisterName 5 70 (pid_on 3 70)) full_store ≡ claim True Done moved_out)

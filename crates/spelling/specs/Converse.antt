@@ -11,7 +11,7 @@ use Rattle.grammar.specs.File.{Group, Level, file, kernel, Here, Sign, comma, op
 use Rattle.grammar.specs.File as File
 use Rattle.spelling.specs.Spelling.{bare, in_quotes, Atom, LaunchFile, groups_of, all, well_named, good_atom, good_number, well_formed, Token, a_sign, an_atom, a_number, the_stop, opener, closer, atom_bytes, token_bytes, Blank, spaced, spell}
 use Rattle.spelling.specs.Spelling as Spelling
-use Rattle.spelling.specs.Course.{with_entry, Course, at_sign, at_atom, AtNode, one_pair, no_pair, more_pairs, end_pairs, one_group, no_group, more_groups, end_groups, at_kind, more_nodes, end_nodes, value_atom, value_number, value_opens, first_value, first_closes, more_values, value_closes, pair_closes, at_stop}
+use Rattle.spelling.specs.Course.{with_entry, Course, at_sign, at_atom, at_node, one_pair, no_pair, more_pairs, end_pairs, one_group, no_group, more_groups, end_groups, at_kind, more_nodes, end_nodes, value_atom, value_number, value_opens, first_value, first_closes, more_values, value_closes, pair_closes, at_stop}
 use Rattle.spelling.specs.Tests.{both, also}
 use Rattle.spelling.specs.Parsed.{course_parsed}
 
@@ -119,7 +119,7 @@ module _ (gs : List Group) where
   cut-atom : (h : Here) (u : Use) (a : Atom) (s : List ℕ) → good_atom a ≡ true → (l : Lead) → named h u a.name ≡ l → LedCut l s → Cut gs h [] (atom u) (atom_bytes a.form a.name ++ s)
   unfolding all token_bytes
   cut-atom h u a s f (to_sign g c ph) e k = cut-token h g [] [] (atom u) (sign c ph) [] (an_atom a) s refl k (at_atom a f e)
-  cut-atom h u a s f (to_node g n ns) e k = cut-token h g [] [] (atom u) (next_node n ns) [] (an_atom a) s refl k (AtNode a f e)
+  cut-atom h u a s f (to_node g n ns) e k = cut-token h g [] [] (atom u) (next_node n ns) [] (an_atom a) s refl k (at_node a f e)
   cut-atom h u a s f nowhere e k = absurd k
 
 -- ---- one byte, given what is known of the text behind it

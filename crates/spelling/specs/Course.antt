@@ -21,7 +21,7 @@ pub data Course (gs : List Group) : Here → List Bracket → Phase → List Tok
   -- an atom that leads to a sign, and one that leads behind a node
   at_atom : {h g : Here} {u : Use} {c : Sign} {ph : Phase} {ts : List Token} (a : Atom) → good_atom a ≡ true → named h u a.name ≡ to_sign g c ph → Course gs g [] (sign c ph) ts
       → Course gs h [] (atom u) (an_atom a ∷ ts)
-  AtNode : {h g : Here} {u : Use} {n : List ℕ} {ns : List (List ℕ)} {ts : List Token} (a : Atom) → good_atom a ≡ true → named h u a.name ≡ to_node g n ns → Course gs g [] (next_node n ns) ts
+  at_node : {h g : Here} {u : Use} {n : List ℕ} {ns : List (List ℕ)} {ts : List Token} (a : Atom) → good_atom a ≡ true → named h u a.name ≡ to_node g n ns → Course gs g [] (next_node n ns) ts
       → Course gs h [] (atom u) (an_atom a ∷ ts)
   -- pairs
   one_pair : {h : Here} {ts : List Token} → Course gs h [] (atom key) ts → Course gs h [] first_pair (a_sign open_tuple ∷ ts)

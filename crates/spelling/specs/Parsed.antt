@@ -11,7 +11,7 @@ use Rattle.grammar.specs.File.{Group, Level, file, kernel, Here, comma, open_lis
 use Rattle.spelling.specs.Tests.{also}
 use Rattle.spelling.specs.Spelling.{Form, Atom, Value, atomic, numeric, nested, Values, no_more, item, Pair, Entry, LaunchFile, group_of, groups_of, all, good_atom, good_value, good_values, depth, most_deep, good_pair, some_node, good_entry, good_around, well_formed, Token, a_sign, an_atom, the_stop, opener, closer, value_tokens, first_tokens, next_tokens, leading, trailing, separated, node_tokens, pair_tokens, entry_tokens, entries_tokens, around_tokens, file_tokens}
 use Rattle.spelling.specs.Spelling as Spelling
-use Rattle.spelling.specs.Course.{here, with_entry, names, Course, at_sign, at_atom, AtNode, one_pair, no_pair, more_pairs, end_pairs, one_group, no_group, more_groups, end_groups, at_kind, more_nodes, end_nodes, value_atom, value_number, value_opens, first_value, first_closes, more_values, value_closes, pair_closes, at_stop}
+use Rattle.spelling.specs.Course.{here, with_entry, names, Course, at_sign, at_atom, at_node, one_pair, no_pair, more_pairs, end_pairs, one_group, no_group, more_groups, end_groups, at_kind, more_nodes, end_nodes, value_atom, value_number, value_opens, first_value, first_closes, more_values, value_closes, pair_closes, at_stop}
 
 module _ (gs : List Group) where
   -- ---- what is left of a file
@@ -233,7 +233,7 @@ module _ (gs : List Group) where
   unfolding good_value depth value_tokens
   parsed (at_sign {ts = ts} r) = (ts, refl, parsed r)
   parsed (at_atom {h = h} {u = u} {ts = ts} a f l r) = by-use h u a ts f (rw l (parsed r))
-  parsed (AtNode {h = h} {u = u} {ts = ts} a f l r) = by-use h u a ts f (rw l (parsed r))
+  parsed (at_node {h = h} {u = u} {ts = ts} a f l r) = by-use h u a ts f (rw l (parsed r))
   parsed (one_pair {h = h} {ts = ts} r) = pairs-begin h.level h.found h.groups ts (parsed r)
   parsed (no_pair f l r) = rw f tt
   parsed (more_pairs {h = h} {ts = ts} r) = let (us, e, k) = parsed r in pairs-go-on h.level h.found h.groups ts us e k

@@ -12,7 +12,7 @@ use Rattle.grammar.specs.File.{Group, Level, file, kernel, Here, Sign, comma, op
 use Rattle.grammar.specs.File as File
 use Rattle.spelling.specs.Tests.{both, unless}
 use Rattle.spelling.specs.Spelling.{Form, bare, in_quotes, Atom, Value, atomic, numeric, nested, Values, no_more, item, Pair, Entry, Around, LaunchFile, group_of, groups_of, all, well_named, good_atom, good_value, good_values, depth, most_deep, good_pair, some_node, good_entry, good_around, well_formed, Token, a_sign, the_stop, closer, value_tokens, first_tokens, next_tokens, leading, trailing, separated, node_tokens, pair_tokens, entry_tokens, entries_tokens, around_tokens, file_tokens, token_bytes, Blank, spaced, spell}
-use Rattle.spelling.specs.Course.{here, with_entry, names, Course, at_sign, at_atom, AtNode, one_pair, no_pair, more_pairs, end_pairs, one_group, no_group, more_groups, end_groups, at_kind, more_nodes, end_nodes, value_atom, value_number, value_opens, first_value, first_closes, more_values, value_closes, pair_closes, at_stop}
+use Rattle.spelling.specs.Course.{here, with_entry, names, Course, at_sign, at_atom, at_node, one_pair, no_pair, more_pairs, end_pairs, one_group, no_group, more_groups, end_groups, at_kind, more_nodes, end_nodes, value_atom, value_number, value_opens, first_value, first_closes, more_values, value_closes, pair_closes, at_stop}
 use Rattle.spelling.specs.Takes.{Takes, past-white, past-sign, apart, past-atom, past-kind, past-value_atom, past-number, past-opener, past-closer, first-closer, as_first}
 
 -- ---- a course is taken, whatever white space stands between its tokens
@@ -21,7 +21,7 @@ stays : {gs : List Group} {h : Here} {due : List Bracket} {ph : Phase} {ts : Lis
 unfolding step reads File.spaced node_next follows
 stays (at_sign r) b e = rw e
 stays (at_atom a f l r) b e = rw e
-stays (AtNode a f l r) b e = rw e
+stays (at_node a f l r) b e = rw e
 stays (one_pair r) b e = rw e
 stays (no_pair f l r) b e = rw e
 stays (more_pairs r) b e = rw e
@@ -123,7 +123,7 @@ unfolding close_up spaced token_bytes step reads File.spaced ends_pairs node_nex
 taken-close (at_sign {h = h} {c = c} {ph = ph} r) gap bl = past-sign _ h c ph _ (behind r (λ w b p. taken-close r w b p) gap bl)
 taken-close (at_atom {h = h} {u = u} a f l r) gap bl =
     past-atom _ h u a.form a.name _ f (sign-apart r (later gap) (λ n. bl (suc n))) (rw l (behind r (λ w b p. taken-close r w b p) gap bl))
-taken-close (AtNode {h = h} {u = u} a f l r) gap bl =
+taken-close (at_node {h = h} {u = u} a f l r) gap bl =
     past-atom _ h u a.form a.name _ f (node-apart r (later gap) (λ n. bl (suc n))) (rw l (behind r (λ w b p. taken-close r w b p) gap bl))
 taken-close (one_pair r) gap bl = one_byte _ _ _ _ _ refl (behind r (λ w b p. taken-close r w b p) gap bl)
 taken-close (no_pair f l r) gap bl = one_byte _ _ _ _ _ (rw (f, l)) (behind r (λ w b p. taken-close r w b p) gap bl)
@@ -216,13 +216,13 @@ module _ (gs : List Group) (h : Here) (n : List ℕ) where
   nodes-next ns (a ∷ nodes) ts f r =
       let (x, y) = both (good_atom a) (all good_atom nodes) f in
       let j : (ns ++ (a.name ∷ [])) ++ names nodes ≡ ns ++ (a.name ∷ names nodes) = append_assoc ns (a.name ∷ []) (names nodes) in
-      more_nodes (AtNode a x refl (nodes-next (ns ++ (a.name ∷ [])) nodes ts y (rw j r)))
+      more_nodes (at_node a x refl (nodes-next (ns ++ (a.name ∷ [])) nodes ts y (rw j r)))
 
   nodes-course : (nodes : List Atom) (ts : List Token) → some_node nodes ≡ true → all good_atom nodes ≡ true → Course gs (with_group h n (names nodes)) [] next_group ts
       → Course gs h [] (atom (node n [])) (separated node_tokens nodes (a_sign close_list ∷ (a_sign close_tuple ∷ ts)))
   unfolding all some_node separated named
   nodes-course [] ts e f r = absurd (let z : ◌≡◌ {A = ℕ} 0 1 = cc in omega arith)
-  nodes-course (a ∷ nodes) ts e f r = let (x, y) = both (good_atom a) (all good_atom nodes) f in AtNode a x refl (nodes-next (a.name ∷ []) nodes ts y r)
+  nodes-course (a ∷ nodes) ts e f r = let (x, y) = both (good_atom a) (all good_atom nodes) f in at_node a x refl (nodes-next (a.name ∷ []) nodes ts y r)
 
 -- groups behind the ones that are read
 abbrev grouped : Here → List Entry → Here

@@ -68,6 +68,11 @@ module _ {cap : ℕ} (st : State) (w : Regular cap st) (room G i s : ℕ) where
   abbrev settled : Outcome → Result
   settled o = settle s o st
 
+  -- a namespace that is held is said to be
+  holds : (g : Group) → find s st.groups ≡ some g → (es : List Entry) (ns : Namespace) → ((n : ℕ) → lookup n es ≡ ns n)
+      → Agrees (settled (done (hold g.members es) True)) (gives P.True (with_group s (has g.members) ns (published st)))
+  holds g f es ns e h = record { state = hold-seen st s g f es ns e; said_is = refl }
+
   pub registers : (n p : ℕ) → Agrees (settled (inside room st.size G i (register_name s n p) (find s st.groups)))
       (transition (RegisterName s n p) i (published st))
   unfolding inside published transition
@@ -87,8 +92,11 @@ module _ {cap : ℕ} (st : State) (w : Regular cap st) (room G i s : ℕ) where
       go g f false e true false q = absurd (false≢true q)
       go g f false e false true q = absurd (true≢false q)
       go g f false e false false q =
-          by-refusal settled (full g.names) (say False NamespaceFull) _ _ refl λ z h.
-          record { state = hold-seen st s g f _ _ (insert-seen n p g.names (not-held (lookup n g.names) e)); said_is = refl }
+          let es : List Entry = insert (record { name = n; pid = p }) g.names in
+          let ns : Namespace = with_at n p (λ k. lookup k g.names) in
+          by-refusal settled (full g.names) (say False NamespaceFull) (done (hold g.members es) True)
+          (gives P.True (with_group s (has g.members) ns (published st))) refl λ z.
+          holds g f es ns (insert-seen n p g.names (not-held (lookup n g.names) e))
 
   pub re-registers : (n p : ℕ)
       → Agrees (settled (inside room st.size G i (re_register_name s n p) (find s st.groups)))
@@ -109,12 +117,12 @@ module _ {cap : ℕ} (st : State) (w : Regular cap st) (room G i s : ℕ) where
       go g f true false e = absurd (false≢true e)
       go g f false true e = absurd (true≢false e)
       go g f false false e =
-          by-refusal settled (not (held (lookup n g.names)) && full g.names) (say False NamespaceFull) _ _ refl λ z h.
-          record {
-            state = hold-seen st s g f _ _ (λ m. insert-seen n p (remove n g.names) (lookup-remove-same 0 n g.names (names-up g f)) m
-                ∙ ap (λ (o : Option ℕ). cond (eqb n m) (some p) o) (remove-seen n g.names (names-up g f) m));
-            said_is = refl;
-          }
+          let es : List Entry = insert (record { name = n; pid = p }) (remove n g.names) in
+          let ns : Namespace = with_at n p (less_at n (λ k. lookup k g.names)) in
+          by-refusal settled (not (held (lookup n g.names)) && full g.names) (say False NamespaceFull) (done (hold g.members es) True)
+          (gives P.True (with_group s (has g.members) ns (published st))) refl λ z.
+          holds g f es ns (λ m. insert-seen n p (remove n g.names) (lookup-remove-same 0 n g.names (names-up g f)) m
+          ∙ ap (λ (o : Option ℕ). cond (eqb n m) (some p) o) (remove-seen n g.names (names-up g f) m))
 
   pub unregisters : (n : ℕ)
       → Agrees (settled (inside room st.size G i (unregister_name s n) (find s st.groups))) (transition (UnregisterName s n) i (published st))

@@ -1,4 +1,6 @@
 // An answer as four words in a lent run.
+#![tactic(auto)]
+
 ghost use Rattle.std.specs.Prelude.{◌≡◌, ◌++◌, ◌≤◌, length, drop};
 ghost use Rattle.answers.specs.Answers.{number};
 ghost use Rattle.answer_words.specs.AnswerWords.{answer_words, first, second, answer_in};

@@ -1,4 +1,6 @@
 // The answers of Icespruce: a value and one reason, with the numbers and output words of document 01.
+#![tactic(auto)]
+
 ghost use Rattle.std.specs.Prelude.{◌≡◌};
 ghost use Rattle.answers.specs.Answers.{number, answer_of};
 ghost use Rattle.answers.specs.Outputs.{kind};

@@ -1,4 +1,6 @@
 // Atoms as runs of bytes: whether two are the same, and a mark by which most are told apart. Bytes are taken eight at a time.
+#![tactic(auto)]
+
 ghost use Rattle.std.specs.Prelude.{◌≡◌, ◌+◌, ◌≤◌, ◌<◌, length};
 ghost use Rattle.std.specs.Int.Bits.{bit_xor};
 ghost use Rattle.tokens.specs.Reserved.{same};

@@ -1,5 +1,7 @@
 // The bodies of s_groups, moved along a lent run of words by one body. Of each loop here that moves words the compiler makes one call of the
 // C library's memmove.
+#![tactic(auto)]
+
 ghost use Rattle.std.specs.Prelude.{◌≡◌, ◌≤◌, length};
 ghost use Rattle.moves.specs.Moves.{put_first, drop_first};
 ghost use Rattle.semantics.specs.Sizes.{names_per_group};

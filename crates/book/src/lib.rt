@@ -1,5 +1,7 @@
 // The name book of a launch: one atom a line, those of the nodes first, in the order of the roster, then those of the groups.
 // An index of 512 lent bytes is made while a book is tested; it leads from an atom to its line.
+#![tactic(auto)]
+
 ghost use Rattle.std.specs.Prelude.{◌≡◌, true, not, ◌&&◌, [], ◌≤◌, ◌<◌, leb, length, get_or, take};
 ghost use Rattle.tokens.specs.Reserved.{among};
 ghost use Rattle.book_index.specs.Layout.{index_size, hint_count, with_mark};

@@ -1,4 +1,6 @@
 // The bytes of a book's index: marks or hints first, then numbers of 16 bits.
+#![tactic(auto)]
+
 ghost use Rattle.std.specs.Prelude.{◌≡◌, ◌<◌, length};
 ghost use Rattle.book_index.specs.Layout.{index_size, hint_count, mark_count, number_count, number_at, with_number, has_mark, with_mark, cleared};
 

@@ -1,4 +1,6 @@
 // The fifteen commands in document 01's order: s is an s_group, n a process name, p a pid, node the node that is asked, set a set of nodes.
+#![tactic(auto)]
+
 #[derive(Clone, Copy)]
 pub enum Command {
     RegisterName { s: u32, n: u32, p: u32 },

@@ -1,4 +1,6 @@
 // Connections and free groups changed in a table.
+#![tactic(auto)]
+
 ghost use Rattle.std.specs.Prelude.{◌≡◌, ◌≤◌, ◌<◌, length};
 ghost use Rattle.nodes.specs.Sets.{node_limit};
 ghost use Rattle.semantics.specs.Sizes.{names_per_group, table_words};

@@ -1,4 +1,6 @@
 // Several s_groups made one after another.
+#![tactic(auto)]
+
 ghost use Rattle.std.specs.Prelude.{◌≡◌, true, length};
 ghost use Rattle.pairs.specs.Woven.{woven};
 ghost use Rattle.semantics.specs.Sizes.{names_per_group, table_words};

@@ -1,4 +1,6 @@
 // Groups of one name in a launch file. The groups are not stored: g is the place behind the bracket of their list, and each function walks the text from there.
+#![tactic(auto)]
+
 ghost use Rattle.std.specs.Prelude.{◌≡◌, not, ◌||◌, take};
 ghost use Rattle.tokens.specs.Reserved.{same, among};
 ghost use Rattle.walk.specs.Walk.{part};

@@ -1,4 +1,5 @@
 // A namespace in a lent run of words: what its functions answer. The definitions and laws stand in specs/.
+#![tactic(auto)]
 
 // Names and pids are below this, and a word counts its name by it.
 pub const HALF_WORD: u64 = 4294967296;

@@ -1,4 +1,6 @@
 // The fifteen commands as a script writes them: the number of a command by its word and how many arguments it has, and the command of a number.
+#![tactic(auto)]
+
 ghost use Rattle.std.specs.Prelude.{◌≡◌, cond, ℕ, eqb};
 ghost use Rattle.forms.specs.Forms.{number_of, command_of, takes_set};
 ghost use Rattle.forms.specs.Words.{spelt};

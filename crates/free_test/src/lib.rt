@@ -1,4 +1,6 @@
 // The tests of free normal groups and of members' connections, which stand in runs of one word a node. Each loop gathers what is wrong and looks at it once, at the end.
+#![tactic(auto)]
+
 ghost use Rattle.std.specs.Prelude.{◌≡◌, ◌≤◌, ◌<◌, length};
 ghost use Rattle.nodes.specs.Sets.{node_limit};
 ghost use Rattle.semantics.specs.Test.{freely};

@@ -1,5 +1,7 @@
 // The groups of a launch file made a plan of in one walk: each is read, looked up in the book and written down. Where anything about them is not plain, nothing
 // is said, and a closer look is left to others.
+#![tactic(auto)]
+
 ghost use Rattle.std.specs.Prelude.{◌≡◌, ℕ, ◌≤◌, length};
 ghost use Rattle.pairs.specs.Woven.{woven};
 ghost use Rattle.semantics.specs.Sizes.{group_limit};

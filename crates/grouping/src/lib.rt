@@ -1,4 +1,6 @@
 // The steps of the commands that make, change and delete s_groups, on a sound table.
+#![tactic(auto)]
+
 ghost use Rattle.std.specs.Prelude.{◌≡◌, true, length};
 ghost use Rattle.semantics.specs.Sizes.{names_per_group, table_words};
 ghost use Rattle.commands.specs.declared.Command.TheVariants.{NewSGroup, AddNodes, RemoveNodes, DeleteSGroup};

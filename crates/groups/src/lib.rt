@@ -1,4 +1,6 @@
 // S_groups put into a table, taken out, and given other members.
+#![tactic(auto)]
+
 ghost use Rattle.std.specs.Prelude.{◌≡◌, List, ◌∷◌, ◌++◌, ◌≤◌, ◌<◌, length};
 ghost use Rattle.semantics.specs.Sizes.{group_limit, names_per_group, table_words};
 ghost use Rattle.semantics.specs.Soundness.{count_of};

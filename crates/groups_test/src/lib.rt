@@ -1,4 +1,6 @@
 // The tests of the s_groups of a table, whose s_groups hold at most `cap` names each.
+#![tactic(auto)]
+
 ghost use Rattle.std.specs.Prelude.{◌≡◌, ◌≤◌, length};
 ghost use Rattle.semantics.specs.Sizes.{group_limit, bodies_at, table_words};
 ghost use Rattle.free_test.specs.WireTests.{all_below};

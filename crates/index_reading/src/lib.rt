@@ -1,4 +1,6 @@
 // Reading by pid in the index of a sound table.
+#![tactic(auto)]
+
 ghost use Rattle.std.specs.Prelude.{◌≡◌, true, ◌++◌, ◌+◌, ◌*◌, ◌≤◌, length, drop};
 ghost use Rattle.semantics.specs.Sizes.{names_per_group, table_words, row_words};
 ghost use Rattle.semantics.specs.Test.{sound};

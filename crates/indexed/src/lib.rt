@@ -1,4 +1,6 @@
 // Calls on a table with an index beside it: opening and the fifteen commands, which keep it, reading by pid, and writing the index of a table that has none.
+#![tactic(auto)]
+
 ghost use Rattle.std.specs.Prelude.{◌≡◌, true, List, ℕ, length};
 ghost use Rattle.commands.specs.declared.Command.TheVariants.{RegisteredNames, WhereisName, OwnNodes, OwnSGroups};
 ghost use Rattle.semantics.specs.Sizes.{names_per_group, table_words, index_words};

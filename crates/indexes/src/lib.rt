@@ -1,4 +1,5 @@
 // What an index of a table holds: the rows of all registered names, by pid. The definitions and laws stand in specs/.
+#![tactic(auto)]
 
 // What a command that is done makes of the rows: nothing; one more, of a key and a name; the one of a key gone; the one of a key gone and
 // another put in; those of an s_group gone whose pid lives on a node of a set.

@@ -1,4 +1,6 @@
 // One command on a sound table with its index: the step, and the rows that it changes.
+#![tactic(auto)]
+
 ghost use Rattle.std.specs.Prelude.{◌≡◌, true, length};
 ghost use Rattle.semantics.specs.Sizes.{names_per_group, table_words};
 ghost use Rattle.semantics.specs.State.{find};

@@ -1,4 +1,6 @@
 // What speaks against a command before an s_group is looked at: reasons 4 to 7, and 14 to 16 of new_s_group. Done where nothing does.
+#![tactic(auto)]
+
 ghost use Rattle.std.specs.Prelude.{◌≡◌};
 ghost use Rattle.inputs.specs.Judge.{caller_reason, group_reason, name_reason, pid_reason, set_reason, asking_reason, host_reason, creation_reason};
 

@@ -1,4 +1,6 @@
 // A table from a launch file.
+#![tactic(auto)]
+
 ghost use Rattle.std.specs.Prelude.{◌≡◌, true, ℕ, length};
 ghost use Rattle.answers.specs.Answers.{answer_of};
 ghost use Rattle.answers.specs.declared.Value.TheVariants.{Ok, Error};

@@ -1,4 +1,6 @@
 // What is wrong with the texts of a launch that is refused.
+#![tactic(auto)]
+
 mod books;
 mod groups;
 

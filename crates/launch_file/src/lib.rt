@@ -1,4 +1,6 @@
 // Reading a whole launch file: the pairs of the file and of its kernel entry, the list of groups, the full stop.
+#![tactic(auto)]
+
 ghost use Rattle.std.specs.Prelude.{◌≡◌, true, cond, ℕ};
 ghost use Rattle.grammar.specs.File.{comma, sign, atom, key, first_pair, next_pair, value, taken, outcome};
 ghost use Rattle.walk.specs.Groups.{groups, pass_groups};

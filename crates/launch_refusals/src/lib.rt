@@ -1,4 +1,6 @@
 // What is said of a launch that is refused: the reason, the place, and a sentence.
+#![tactic(auto)]
+
 ghost use Rattle.std.specs.Prelude.{◌≡◌, min, length, take};
 ghost use Rattle.refusal_head.specs.Refusal.{refusal_head};
 

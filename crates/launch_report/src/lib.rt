@@ -1,4 +1,6 @@
 // What is said of a launch that goes through: the s_groups of its table, in the atoms of the book.
+#![tactic(auto)]
+
 ghost use Rattle.std.specs.Prelude.{◌≡◌, true, length};
 ghost use Rattle.nodes.specs.NodeSets.{node_limit};
 ghost use Rattle.semantics.specs.Sizes.{names_per_group};

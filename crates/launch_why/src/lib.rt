@@ -1,4 +1,6 @@
 // Why a launch is refused, in words.
+#![tactic(auto)]
+
 use answers::Reason;
 use launch_expected::{front, put_expected};
 use launch_faults::{Fault, Spot, part};

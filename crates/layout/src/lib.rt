@@ -1,4 +1,5 @@
 // Where the parts of a table stand.
+#![tactic(auto)]
 
 // How much there can be: nodes on a roster, s_groups, names in an s_group.
 pub const NODE_LIMIT: usize = nodes::NODE_LIMIT as usize;

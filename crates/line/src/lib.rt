@@ -1,4 +1,6 @@
 // A line of a script becomes a request.
+#![tactic(auto)]
+
 ghost use Rattle.std.specs.Prelude.{◌≡◌, length};
 ghost use Rattle.text.specs.Text.{fields};
 ghost use Rattle.line.specs.Requests.{number_in, open_with, open_line, formed_line, command_with, command_by, numbered_line, command_line, request_of};

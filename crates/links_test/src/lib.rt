@@ -1,4 +1,6 @@
 // The test of connections: each stays on the roster, and goes both ways. Pair by pair, or by turning the words about their diagonal.
+#![tactic(auto)]
+
 ghost use Rattle.std.specs.Prelude.{◌≡◌, ◌+◌, ◌≤◌, ◌<◌, length};
 ghost use Rattle.nodes.specs.Sets.{node_limit, empty};
 ghost use Rattle.free_test.specs.WireTests.{all_below, own_linked, both_ways, own_mutual, links_sound};

@@ -1,4 +1,6 @@
 // An open file, read to its end.
+#![tactic(auto)]
+
 ghost use Rattle.std.specs.Prelude.{◌≤◌, length};
 
 // How many bytes were read, and whether a read failed.

@@ -1,4 +1,6 @@
 // The names of the s_group at a place of the table: its own words are lent to the namespace functions, and its contents word counts them.
+#![tactic(auto)]
+
 ghost use Rattle.std.specs.Prelude.{◌≡◌, true, ◌<◌, length};
 ghost use Rattle.std.proofs.Math.Option.{none};
 ghost use Rattle.entries.specs.Entries.{insert, remove, renew, lookup, rank, holds_pid, drop_hosted};

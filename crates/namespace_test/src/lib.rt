@@ -1,5 +1,7 @@
 // Whether a namespace is sound. Pids are told apart by slots, which the caller lends: a slot holds the stamp of the namespace whose pid came by last, so that nothing
 // is cleared between two namespaces with different stamps. A slot that holds the stamp leads to an exact look back; whatever the slots hold, the answer is the same.
+#![tactic(auto)]
+
 ghost use Rattle.std.specs.Prelude.{◌≡◌, ◌&&◌, ◌≤◌, eqb, length, drop, get_or, set};
 ghost use Rattle.entries.specs.Entries.{holds_pid, entries};
 ghost use Rattle.entries.specs.NamespaceSound.{is_ascending, is_distinct, is_hosted, all_zero, sound_words};

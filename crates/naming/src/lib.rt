@@ -1,4 +1,6 @@
 // The steps of the three commands that change names: register_name, re_register_name, unregister_name.
+#![tactic(auto)]
+
 ghost use Rattle.std.specs.Prelude.{◌≡◌, true, false, ℕ, ◌<◌, length};
 ghost use Rattle.entries.specs.Entries.{lookup, holds_pid};
 ghost use Rattle.semantics.specs.Sizes.{group_limit, names_per_group, table_words};

@@ -1,4 +1,6 @@
 // Sets of nodes in a word: node i is in the set where the binary digit i of the word is 1.
+#![tactic(auto)]
+
 ghost use Rattle.std.specs.Prelude.{◌≡◌, min, take};
 ghost use Rattle.nodes.specs.Sets.{node_limit, has, union, inter, diff, with_node, without_node, subset, roster, beyond};
 ghost use Rattle.nodes.specs.Sets.{count, lowest, rest, word_at, unions_at, union_all};

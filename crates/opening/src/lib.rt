@@ -1,4 +1,6 @@
 // A table opened.
+#![tactic(auto)]
+
 ghost use Rattle.std.specs.Prelude.{◌≡◌, cond};
 ghost use Rattle.nodes.specs.Sets.{has, with_node};
 ghost use Rattle.semantics.specs.Steps.{mapi};

@@ -1,4 +1,6 @@
 // The steps of own_nodes and own_s_groups.
+#![tactic(auto)]
+
 ghost use Rattle.std.specs.Prelude.{◌≡◌, true, ◌<◌, ◌≤◌, length};
 ghost use Rattle.nodes.specs.Sets.{node_limit};
 ghost use Rattle.semantics.specs.Sizes.{group_limit, names_per_group, table_words};

@@ -1,4 +1,6 @@
 // Where the s_group of a name stands in a table, and for whom it is open.
+#![tactic(auto)]
+
 ghost use Rattle.std.specs.Prelude.{◌≡◌, true, ◌≤◌, length};
 ghost use Rattle.semantics.specs.Sizes.{names_per_group, table_words};
 ghost use Rattle.semantics.specs.Table.{state_of};

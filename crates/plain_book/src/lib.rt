@@ -1,4 +1,6 @@
 // A book tested and searched by its lines alone, for the rare ways of a launch: no index is made, and no array.
+#![tactic(auto)]
+
 ghost use Rattle.std.specs.Prelude.{◌≡◌, true};
 ghost use Rattle.book.specs.Book.{fit, node_atoms, place_of};
 ghost use Rattle.plain_book.specs.Numbers.{number_in};

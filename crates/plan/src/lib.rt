@@ -1,4 +1,6 @@
 // What is to be made of the groups of a launch file: the number and the nodes of each, by the book.
+#![tactic(auto)]
+
 ghost use Rattle.std.specs.Prelude.{◌≡◌, true, ℕ, ◌*◌, length, take};
 ghost use Rattle.pairs.specs.Woven.{woven};
 ghost use Rattle.semantics.specs.Sizes.{group_limit};

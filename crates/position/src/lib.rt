@@ -1,4 +1,6 @@
 // Where a place of a text stands, for messages: its line and its column.
+#![tactic(auto)]
+
 ghost use Rattle.std.specs.Prelude.{◌≡◌};
 ghost use Rattle.position.specs.Position.{line_of, column_of};
 

@@ -1,4 +1,6 @@
 // Bytes, numbers and answers, put one behind the other into a run that the caller lends. Where the run is full, what is left over is dropped.
+#![tactic(auto)]
+
 ghost use Rattle.std.specs.Prelude.{◌≡◌, [], ◌∷◌, ◌++◌};
 ghost use Rattle.answers.specs.Outputs.{output_word, numbers};
 ghost use Rattle.print.specs.Sheets.{sheet, put};

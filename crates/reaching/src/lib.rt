@@ -1,5 +1,7 @@
 // The steps of the lookup by another node and of the sends, on a sound table. The connection that a lookup or a send asks for is made once its
 // arguments pass, whether a pid is found or not.
+#![tactic(auto)]
+
 ghost use Rattle.std.specs.Prelude.{◌≡◌, true, ◌<◌, length};
 ghost use Rattle.nodes.specs.Sets.{node_limit};
 ghost use Rattle.semantics.specs.Sizes.{names_per_group, table_words};

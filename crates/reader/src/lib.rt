@@ -1,5 +1,7 @@
 // A reader: the text of a launch file together with a place in it, which messages name. The borrow checker covers no function
 // over such a struct, so each is thin, takes the struct apart for a covered function, and is proved by hand.
+#![tactic(auto)]
+
 ghost use Rattle.std.specs.Prelude.{◌≡◌};
 ghost use Rattle.grammar.specs.File.{outcome};
 ghost use Rattle.launch_file.specs.Reading.{fronted, read_as, RestRead};
@@ -8,7 +10,7 @@ ghost use Rattle.position.specs.Position.{line_of, column_of};
 use launch_file::Reading;
 use walk::Step;
 
-#[derive(Drop)]
+#[derive(Clone, Copy)]
 pub struct Reader<'a> {
     pub text: &'a [u8],
     pub at: usize,

@@ -1,4 +1,6 @@
 // The steps of registered_names and whereis_name.
+#![tactic(auto)]
+
 ghost use Rattle.std.specs.Prelude.{◌≡◌, true, ◌<◌, length};
 ghost use Rattle.semantics.specs.Sizes.{group_limit, names_per_group, table_words};
 ghost use Rattle.semantics.specs.State.{State};

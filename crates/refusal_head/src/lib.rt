@@ -1,4 +1,6 @@
 // What of a refusal is determined by its answer: the reason, the place, and the line and column of a slip.
+#![tactic(auto)]
+
 ghost use Rattle.std.specs.Prelude.{◌≡◌};
 ghost use Rattle.print.specs.Sheets.{sheet, put};
 ghost use Rattle.refusal_head.specs.Refusal.{error_line, place_words, slip, head_lines};

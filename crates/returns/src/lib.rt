@@ -1,1 +1,2 @@
 // What a command does to a sound table, and what its ends are: laws alone, in specs/.
+#![tactic(auto)]

@@ -1,4 +1,6 @@
 // What changes the connections and the free groups, in place: node i has the word i of a run. A node past the end of a run touches nothing.
+#![tactic(auto)]
+
 ghost use Rattle.std.specs.Prelude.{◌≡◌, cond, ◌%◌, eqb};
 ghost use Rattle.nodes.specs.Sets.{has, diff};
 ghost use Rattle.semantics.specs.Steps.{mapi, interconnect, leave_free, one_free_group};

@@ -1,4 +1,6 @@
 // Runs a script line by line on a table, and prints into a run that the caller lends.
+#![tactic(auto)]
+
 ghost use Rattle.std.specs.Prelude.{◌≡◌, List, ℕ, ◌<◌, length};
 ghost use Rattle.print.specs.Sheets.{sheet};
 ghost use Rattle.script.specs.Scripts.{script_limit, lines_of, lines_from, size_of, stop, runs};

@@ -1,4 +1,6 @@
 // The fifteen commands over a lent table, each with its test.
+#![tactic(auto)]
+
 ghost use Rattle.std.specs.Prelude.{◌≡◌, length};
 ghost use Rattle.commands.specs.declared.Command.TheVariants.{RegisteredNames, WhereisName, OwnNodes, OwnSGroups};
 ghost use Rattle.answers.specs.Answers.{answer_of};

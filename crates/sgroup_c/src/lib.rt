@@ -1,4 +1,6 @@
 // The library for C and Rust: opening, the test and the commands, with numbers for their answers. A run is passed as a pointer and a length.
+#![tactic(auto)]
+
 mod with_index;
 
 ghost use Rattle.std.specs.Prelude.{◌≡◌, []};

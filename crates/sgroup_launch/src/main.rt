@@ -1,4 +1,6 @@
 // The program `sgroup_launch`: launches a table from a book and a launch file, and says which s_groups it has, or why the launch is refused.
+#![tactic(auto)]
+
 ghost use Rattle.std.specs.Prelude.{◌≡◌, length, take};
 ghost use Rattle.sgroup_launch.specs.Report.{report, report_sure};
 

@@ -1,4 +1,6 @@
 // The program `sgroup_run`: reads a script from standard input, runs it on a table of zero words, and writes what it prints to standard output.
+#![tactic(auto)]
+
 use libc::{STDIN_FILENO, STDOUT_FILENO};
 
 // The longest script, and one byte more by which a longer one is known.

@@ -1,4 +1,6 @@
 // The program `sgroup_who`: runs the script of standard input on a table of zero words, and says who goes by a process in the table that is left.
+#![tactic(auto)]
+
 ghost use Rattle.std.specs.Prelude.{◌≡◌};
 ghost use Rattle.print.specs.Sheets.{sheet, put};
 ghost use Rattle.script.specs.Scripts.{lines_from, left};

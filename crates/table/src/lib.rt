@@ -1,4 +1,6 @@
 // Whether a run of words is a sound table.
+#![tactic(auto)]
+
 ghost use Rattle.std.specs.Prelude.{◌≡◌, ◌+◌, ◌*◌, ◌≤◌, ◌<◌, length};
 ghost use Rattle.entries.specs.Entries.{half_word};
 ghost use Rattle.semantics.specs.Sizes.{group_limit, names_per_group, bodies_at, table_words};

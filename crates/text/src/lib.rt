@@ -1,4 +1,6 @@
 // Numbers in decimal, and the fields of a line between its spaces.
+#![tactic(auto)]
+
 ghost use Rattle.std.specs.Prelude.{◌≡◌, length};
 ghost use Rattle.text.specs.Numbers.{plain, numeral, narrow};
 ghost use Rattle.text.specs.Text.{field, fields, find_in};

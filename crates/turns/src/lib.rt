@@ -1,4 +1,6 @@
 // A request is called on a table, and its answer printed.
+#![tactic(auto)]
+
 ghost use Rattle.std.specs.Prelude.{◌≡◌, length};
 ghost use Rattle.print.specs.Sheets.{sheet, put};
 ghost use Rattle.turns.specs.Turns.{list_room, request_turn};

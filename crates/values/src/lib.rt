@@ -1,4 +1,6 @@
 // Skipping the value of a pair: an atom, a number, or a list or a tuple of values, nested to a depth.
+#![tactic(auto)]
+
 ghost use Rattle.std.specs.Prelude.{◌≡◌, ◌≤◌, ◌<◌, length};
 ghost use Rattle.tokens.specs.Tokens.{token_at};
 ghost use Rattle.grammar.specs.File.{list, tuple};

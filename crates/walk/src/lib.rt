@@ -1,4 +1,6 @@
 // Walking the groups of a launch file: each function reads one thing at a place of the text, and answers the place behind it or the place where it stops.
+#![tactic(auto)]
+
 ghost use Rattle.std.specs.Prelude.{◌≡◌};
 ghost use Rattle.walk.specs.Walk.{sign_at, then_sign, atom_at, letters_at, normal_at, then_normal, head_at, node_at, entry_at};
 ghost use Rattle.walk.specs.Groups.{pass_nodes, pass_groups};

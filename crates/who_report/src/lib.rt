@@ -1,4 +1,6 @@
 // What is said of a process: a line for each name that it has, or why it cannot be told.
+#![tactic(auto)]
+
 ghost use Rattle.std.specs.Prelude.{◌≡◌};
 ghost use Rattle.print.specs.Sheets.{sheet, put};
 ghost use Rattle.who_report.specs.Who.{name_line, name_lines, names_told, host_words, why, who_lines};

@@ -1,0 +1,10 @@
+-- `book::hinted` meets its contract: a hint that is taken leads to a line that is the atom. Assumes nothing.
+use Prim.Native.Nat.{◌<◌}
+use Rattle.book_index.specs.Layout.{hint_count}
+use Rattle.book.proofs.hinted.Given as goal
+
+abbrev pub invariant-loop-left : goal.invariant-loop-left
+invariant-loop-left l = l.at < hint_count
+
+abbrev pub decreases-loop-left : goal.decreases-loop-left
+decreases-loop-left l = l.left

@@ -1,0 +1,33 @@
+-- `forms::sending` meets its contract: by how many arguments are given.
+-- Assumes nothing.
+use mathlib.Core.Path.{◌≡◌}
+use Prim.Native.Nat.{ℕ}
+use native.Mathlib.Omega.{arith}
+use borrow.Author.Tests.{ne_eqb}
+use Rattle.forms.specs.Forms.{forms, number_from, number_of}
+use Rattle.forms.specs.Words.{spelt}
+use Rattle.forms.specs.declared.Word.TheVariants.{Send}
+use Rattle.forms.proofs.sending.Goals as goal
+
+-- it has no other form
+other : (n : ℕ) → (n ≡ 1 → ⊥) → (n ≡ 2 → ⊥) → (n ≡ 3 → ⊥) → 0 ≡ number_of (spelt Send) n
+unfolding number_of number_from forms
+other n a b d = simp (ne_eqb n 1 a, ne_eqb n 2 b, ne_eqb n 3 d)
+
+pub returns-in-0 : goal.returns-in-0
+returns-in-0 c = other _ (λ e. omega arith) (λ e. omega arith) (λ e. omega arith)
+
+pub returns-in-1 : goal.returns-in-1
+unfolding number_of number_from forms
+returns-in-1 c = rw c.in-1.is
+
+pub returns-in-2 : goal.returns-in-2
+unfolding number_of number_from forms
+returns-in-2 c = rw c.in-2.is
+
+pub returns-in-3 : goal.returns-in-3
+unfolding number_of number_from forms
+returns-in-3 c = rw c.in-3.is
+
+pub returns-in_default : goal.returns-in_default
+returns-in_default c = other _ (λ e. omega arith) (λ e. omega arith) (λ e. omega arith)

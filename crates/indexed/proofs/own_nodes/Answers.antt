@@ -1,0 +1,23 @@
+-- `indexed::own_nodes` meets its contract: refused for its table or index, or the command's step. Assumes nothing.
+use mathlib.Core.Path.{refl}
+use mathlib.Core.List.{[]}
+use Rattle.commands.specs.declared.Command.TheVariants.{OwnNodes}
+use Rattle.inputs.proofs.Reasons.{not_done}
+use Rattle.indexed.specs.Reasons.{index_there, tells-refused, tells-done}
+use Rattle.indexed.proofs.own_nodes.Goals as goal
+
+pub returns-in_default : goal.returns-in_default
+returns-in_default c =
+    let a = c.args in
+    (tells-refused a.table.now a.index.now a.caller OwnNodes [] c.index_reason-reason.ensures c.refused.ensures (not_done c.index_reason-reason.result c.in_default.not-Done)).0
+
+pub own_nodes-requires : goal.own_nodes-requires
+own_nodes-requires c =
+    let a = c.args in
+    let q = index_there a.table.now a.index.now c.index_reason-reason.ensures c.in-Done.is in
+    record { t_len = q.0; t_value = q.1.0 }
+
+pub returns : goal.returns
+returns c =
+    let a = c.args in
+    (tells-done a.table.now a.index.now a.caller OwnNodes [] c.index_reason-reason.ensures c.in-Done.is (c.own_nodes.ensures, refl)).0

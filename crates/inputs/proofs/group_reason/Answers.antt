@@ -1,0 +1,23 @@
+-- `inputs::group_reason` meets its contract: an earlier reason stands, and each later return is the definition's case.
+-- Assumes nothing.
+use borrow.Author.Tests.{eq-eqb, ne_eqb, le-leb, lt-leb}
+use Rattle.inputs.proofs.Reasons.{stands, passed}
+use Rattle.inputs.proofs.group_reason.Goals as goal
+
+pub returns-in_default : goal.returns-in_default
+returns-in_default c = stands c.caller_reason-r.result _ _ c.caller_reason-r.ensures c.in_default.not-Done
+
+pub returns-then-s-eq0 : goal.returns-then-s-eq0
+returns-then-s-eq0 c =
+    passed c.caller_reason-r.result _ _ _ c.caller_reason-r.ensures c.in-Done.is
+    (simp (eq-eqb _ _ c.if-s-eq0.true))
+
+pub returns-then-s-ge-GROUP_NAMES : goal.returns-then-s-ge-GROUP_NAMES
+returns-then-s-ge-GROUP_NAMES c =
+    passed c.caller_reason-r.result _ _ _ c.caller_reason-r.ensures c.in-Done.is
+    (simp (ne_eqb _ _ c.if-s-eq0.false, le-leb _ _ c.if-s-ge-GROUP_NAMES.true))
+
+pub returns : goal.returns
+returns c =
+    passed c.caller_reason-r.result _ _ _ c.caller_reason-r.ensures c.in-Done.is
+    (simp (ne_eqb _ _ c.if-s-eq0.false, lt-leb _ _ c.if-s-ge-GROUP_NAMES.false))

@@ -1,0 +1,17 @@
+-- `launch::make` meets its contract: the opened table is sound, and the s_groups are made on it.
+-- Assumes nothing.
+use mathlib.Core.Path.{ap, ◌∙◌}
+use Rattle.semantics.specs.Sizes.{names_per_group}
+use Rattle.semantics.specs.Test.{sound}
+use Rattle.semantics.specs.Agree.{test-regular}
+use Rattle.creating.specs.Creating.{created}
+use Rattle.launch.specs.Launches.{opened-sound}
+use Rattle.launch.proofs.make.Goals as goal
+
+pub create-requires : goal.create-requires
+create-requires c =
+    let ok = ap (sound names_per_group) c.open.ensures.t_after ∙ opened-sound _ _ _ c.requires.fact in
+    record { t_len = (test-regular names_per_group _ ok).2; t_value = ok; numbers_len = c.requires.numbers_len }
+
+pub returns : goal.returns
+returns c = c.create.ensures ∙ ap (created _) c.open.ensures.t_after

@@ -1,0 +1,25 @@
+-- `launch_file::to_own` meets its contract: each pair is one turn, and the list does not end in front of its own pair. Assumes nothing.
+use mathlib.Core.Bool.{false, cond}
+use native.Mathlib.Omega.{arith}
+use Rattle.grammar.specs.File.{first_pair, next_pair}
+use Rattle.launch_file.specs.Reading.{list_of, PairRead}
+use Rattle.launch_file.specs.Lists.{reached-here, reached-other, own-stops, own_open, own-entered}
+use Rattle.launch_file.proofs.to_own.Goals as goal
+
+pub loop-p-init : goal.loop-p-init
+loop-p-init c = reached-here _ _ _ _
+
+pub returns-in-Stop : goal.returns-in-Stop
+returns-in-Stop c = own-stops _ _ _ _ _ c.loop-p.invariant _ ((let the : let a = c.args in PairRead (list_of a.own.now false) (cond c.loop-p.begun next_pair first_pair) a.text.now c.loop-p.j false _ = rw c.in-Stop.is at c.next_pair.ensures in the))
+
+pub returns-in-Closed : goal.returns-in-Closed
+returns-in-Closed c = own_open _ _ _ _ _ _ ((let the : let a = c.args in PairRead (list_of a.own.now false) (cond c.loop-p.begun next_pair first_pair) a.text.now c.loop-p.j false _ = rw c.in-Closed.is at c.next_pair.ensures in the))
+
+pub returns-in-Own : goal.returns-in-Own
+returns-in-Own c = own-entered _ _ _ _ _ c.loop-p.invariant _ ((let the : let a = c.args in PairRead (list_of a.own.now false) (cond c.loop-p.begun next_pair first_pair) a.text.now c.loop-p.j false _ = rw c.in-Own.is at c.next_pair.ensures in the))
+
+pub loop-p-smaller : goal.loop-p-smaller
+loop-p-smaller c = let a = ((let the : let a = c.args in PairRead (list_of a.own.now false) (cond c.loop-p.begun next_pair first_pair) a.text.now c.loop-p.j false _ = rw c.in-Other.is at c.next_pair.ensures in the)).on in omega arith
+
+pub loop-p-preserved : goal.loop-p-preserved
+loop-p-preserved c = reached-other _ _ _ _ _ _ c.loop-p.invariant _ _ ((let the : let a = c.args in PairRead (list_of a.own.now false) (cond c.loop-p.begun next_pair first_pair) a.text.now c.loop-p.j false _ = rw c.in-Other.is at c.next_pair.ensures in the))

@@ -1,0 +1,26 @@
+-- `opening::alone` meets its contract: a walk over the set, in which each member's word becomes that member.
+-- Assumes nothing.
+use borrow.Author.Rules.{rules}
+use Prim.Native.Nat.{◌<◌}
+use native.Mathlib.Omega.{arith}
+use Rattle.rewiring.specs.PlaceByPlace.{walk-less, walk-store, walk-past, walk_end}
+use Rattle.opening.proofs.alone.Goals as goal
+use Rattle.opening.proofs.alone.Goals.{then-i-words, else-i-words}
+
+pub loop-left-smaller : goal.loop-left-smaller
+loop-left-smaller c =
+    let at = c.loop-left in
+    let some : 0 < at.left = omega arith in
+    walk-less _ at.invariant some c.rest-left.ensures
+
+-- CONVERT: w.2 is a field w.VARIABLE-is now
+-- CONVERT: w.1 is a field w.VARIABLE-is now
+pub loop-left-preserved : goal.loop-left-preserved
+loop-left-preserved c =
+    let at = c.loop-left in
+    let some : 0 < at.left = omega arith in
+    let node = c.lowest-node in
+    elim c.if-i-words.branch [ then-i-words w ↦ walk-store _ at.invariant some node.ensures c.rest-left.ensures w.with.ensures w.2 | else-i-words w ↦ walk-past _ at.invariant some node.ensures c.rest-left.ensures w.if-i-words.false w.1 ]
+
+pub returns : goal.returns
+returns c = walk_end _ c.loop-left.invariant (search rules)

@@ -1,0 +1,13 @@
+-- `position::column` meets its contract: the walk to the place.
+-- Assumes nothing.
+use Prim.Native.Nat.{◌-◌}
+use lib.ListN.{length}
+use Rattle.position.specs.Position.{next_column}
+use Rattle.position.specs.PositionLaws.{Reached}
+use Rattle.position.proofs.column.Given as goal
+
+abbrev pub invariant-loop-i : goal.invariant-loop-i
+invariant-loop-i l = Reached next_column l.text l.at l.i l.n
+
+abbrev pub decreases-loop-i : goal.decreases-loop-i
+decreases-loop-i l = length l.text - l.i

@@ -1,0 +1,27 @@
+-- `sgroup_c::with_index::commanded` meets its contract: with room for the answer it is the call's of the number's command, and without it nothing is called.
+-- Assumes nothing.
+use mathlib.Core.List.{[]}
+use Rattle.indexes.specs.IndexCalls.{indexed}
+use Rattle.answer_words.specs.Told.{silent-indexed, tells-indexed}
+use Rattle.sgroup_c.proofs.Formed.{one, none}
+use Rattle.sgroup_c.proofs.with_index.commanded.Goals as goal
+
+pub returns-then-answer-lt-ANSWER_WORDS : goal.returns-then-answer-lt-ANSWER_WORDS
+returns-then-answer-lt-ANSWER_WORDS c =
+    λ command known.
+    let a = c.args in
+    silent-indexed (indexed 0 a.caller command a.table.now a.index.now) a.answer.now [] a.table.now a.index.now c.if-answer-lt-ANSWER_WORDS.true
+
+pub put-requires : goal.put-requires
+put-requires c = c.if-answer-lt-ANSWER_WORDS.false
+
+pub returns-in-Is : goal.returns-in-Is
+returns-in-Is c =
+    λ command known.
+    let a = c.args in
+    let g = c.call.ensures in
+    rw (one c.command_of.ensures c.in-Is.is known)
+    (tells-indexed (indexed 0 a.caller c.in-Is.command a.table.now a.index.now) a.answer.now [] a.table.now a.index.now c.if-answer-lt-ANSWER_WORDS.false (g.value, (g.table_after, g.index_after)) (c.put.ensures.value, c.put.ensures.run_after))
+
+pub returns-in-Nothing : goal.returns-in-Nothing
+returns-in-Nothing c = λ command known. absurd (none c.command_of.ensures c.in-Nothing.is known)

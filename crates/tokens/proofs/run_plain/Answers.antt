@@ -1,0 +1,18 @@
+-- `tokens::run_plain` meets its contract: the run at `at` is as long as what is passed and the run at i. Assumes nothing.
+use mathlib.Core.Path.{◌≡◌, sym, ◌∙◌}
+use Prim.Native.Nat.{◌+◌}
+use native.Mathlib.Omega.{arith}
+use Rattle.tokens.specs.Within.{passes-four}
+use Rattle.tokens.specs.declared.Class.TheVariants.{Name}
+use Rattle.tokens.proofs.run_plain.Goals as goal
+
+pub returns-then-not-four_plain-2 : goal.returns-then-not-four_plain-2
+returns-then-not-four_plain-2 c =
+    c.run-then-not-four_plain-2.ensures ∙ sym (passes-four Name _ _ _ c.loop-i.invariant.1 (sym c.four_plain.ensures ∙ c.if-not-four_plain.false))
+
+pub loop-i-preserved : goal.loop-i-preserved
+loop-i-preserved c =
+    let l = c.loop-i in
+    let half = passes-four Name _ _ _ l.invariant.1 (sym c.four_plain.ensures ∙ c.if-not-four_plain.false) in
+    let e : l.i + 4 + 4 ≡ l.i + 8 = omega arith in
+    (omega arith, rw e at (passes-four Name _ _ _ half (sym c.four_plain-in-loop-i.ensures ∙ c.if-not-four_plain-2.false)))

@@ -1,0 +1,12 @@
+-- `walk::pass_groups` meets its contract: each group is one step of the walk. Assumes nothing.
+use mathlib.Core.Path.{◌≡◌}
+use Prim.Native.Nat.{◌-◌}
+use lib.ListN.{length}
+use Rattle.walk.specs.Groups.{pass_groups_from, pass_groups}
+use Rattle.walk.proofs.pass_groups.Given as goal
+
+abbrev pub invariant-loop-n : goal.invariant-loop-n
+invariant-loop-n l = pass_groups l.text l.at ≡ pass_groups_from l.text l.j l.begun
+
+abbrev pub decreases-loop-n : goal.decreases-loop-n
+decreases-loop-n l = length l.text - l.j

@@ -1,0 +1,15 @@
+-- `who_report::put_lines` meets its contract: all lines behind what was there is what is left of them behind what is there now.
+-- Assumes nothing.
+use mathlib.Core.Path.{◌≡◌}
+use Prim.Native.Nat.{◌≤◌, ◌-◌}
+use lib.ListN.{length, drop}
+use Rattle.print.specs.Sheets.{sheet, put}
+use Rattle.who_report.specs.Who.{name_lines}
+use Rattle.who_report.proofs.put_lines.Given as goal
+
+abbrev pub invariant-loop-i : goal.invariant-loop-i
+invariant-loop-i l =
+    (l.i ≤ length l.words) × (length l.out ≡ length l.initial.out) × (put (sheet l.initial.out 0) (name_lines l.words) ≡ put (sheet l.out l.p) (name_lines (drop l.i l.words)))
+
+abbrev pub decreases-loop-i : goal.decreases-loop-i
+decreases-loop-i l = length l.words - l.i

@@ -14,20 +14,19 @@ judge() {
         function amiss(what) { print FILENAME ": " name ": " what; bad = 1 }
         function judged(   clauses, n, i) {
             many++
-            if (head ~ /requires \{/) amiss("a public function of a crate for callers has a requires")
-            n = split(head, clauses, /ensures \{/)
+            if (head ~ /requires[a-z0-9_* ]*\{/) amiss("a public function of a crate for callers has a requires")
+            n = split(head, clauses, /ensures[a-z0-9_* ]*\{/)
             if (n < 2) amiss("it promises nothing")
             for (i = 2; i <= n; i++) if (!equation(clauses[i])) amiss("a promise is no equation: " clauses[i])
         }
         function equation(s) {
-            sub(/^.*⌜/, "", s)
-            sub(/⌝.*$/, "", s)
+            sub(/}[^}]*$/, "", s)
             while (gsub(/\([^()]*\)/, "", s)) {}
             return split(s, sides, /≡/) == 2 && s !~ /→|×|⊎|↔|≤|≢|</
         }
         /^[ ]*pub ([a-z]+ |"C" )*fn / { if (inside) amiss("its body is not found"); name = $0; sub(/^.*fn /, "", name); sub(/\(.*/, "", name); head = ""; inside = 1 }
         inside { head = head " " $0 }
-        inside && (/^[ ]*\{$/ || (/\{$/ && head !~ /(requires|ensures) \{/)) { judged(); inside = 0 }
+        inside && (/^[ ]*\{$/ || (/\{$/ && head !~ /(requires|ensures)[a-z0-9_* ]*\{/)) { judged(); inside = 0 }
         END { if (inside) amiss("its body is not found"); if (!many) amiss("there is no public function"); exit bad }
     ' "$@"
 }

@@ -16,12 +16,10 @@ trap 'rm -f "$said"' EXIT
 quietly() { "$@" >"$said" 2>&1 || { cat "$said"; exit 1; }; }
 quietly tools/native-lib sgroup_c
 quietly cargo build --release --offline --manifest-path tests/compare/Cargo.toml
-quietly rt check sgroup_run
-# Programs are for x86-64 and run under the kit's loader; on another processor the kit has an emulator beside its compiler.
-kit=${RATTLE_HOME:-$(cd "$(dirname "$(readlink -f "$(command -v rt)")")/.." && pwd -P)}
-kit_tools=$kit/on/$(uname -m)/toolchain
-program=("$kit_tools/lib/ld-linux-x86-64.so.2" --library-path "$kit_tools/lib" target/bin/sgroup_run)
-[ "$(uname -m)" = x86_64 ] || program=("$kit_tools/bin/qemu-x86_64" "${program[@]}")
+# Proves and builds a program, as crates/NAME/out/NAME, and runs it on no bytes: build NAME
+build() { (cd "crates/$1" && rt run </dev/null); }
+quietly build sgroup_run
+program=(crates/sgroup_run/out/sgroup_run)
 bad=0
 for kept in tests/compare/kept/*.case; do
     [ ! -e "$kept" ] || tests/compare/target/release/library again "$kept" || bad=1

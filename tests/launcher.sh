@@ -7,27 +7,31 @@ bad=0
 room=$(mktemp -d)
 trap 'rm -rf "$room"' EXIT
 root=$room/root
-mkdir -p "$root/crates" "$room/bin" "$room/temporary"
+mkdir -p "$root"/crates/{low,side,sgroup_run,sgroup_who,sgroup_launch}/src "$room/bin" "$room/temporary"
 cp icespruce VERSION kit.txt "$root"
-printf '# a comment: with a colon\nlow:\nside: low\nsgroup_run: low io\nsgroup_who: low io os\nsgroup_launch: low side os\n' >"$root/crates.txt"
+printf '# a comment: with a colon\nlow:\nside: low\nsgroup_run: low io\nsgroup_who: low io\nsgroup_launch: low side\n' >"$root/crates.txt"
 
 # A kit that takes `pause` seconds, then ends with `status`; where that is 0 it makes a program that prints its input, or `answer` where it has arguments, or
 # waits where `pause` is not 0.
 cat >"$room/bin/rt" <<'KIT'
 #!/bin/sh
 room=${0%/bin/rt}
-[ "$1" = check ] || { cat "$room/version"; exit; }
+[ "$1" = run ] || { cat "$room/version"; exit; }
+name=${PWD##*/}
 echo used >>"$room/uses"
-echo "rt: low proved (1 s)"
+echo "rt: chose --jobs 2 for low"
+echo "crate low: modules loaded=0 checked=1"
+echo "logic=proved functions=1"
 sleep "$(cat "$room/pause")" &
 echo $! >"$room/sleeper"
 wait $!
 status=$(cat "$room/status")
 [ "$status" -eq 0 ] || exit "$status"
-mkdir -p target/bin
-printf '#!/bin/sh\nread seconds <%s/pause\n[ "$seconds" -eq 0 ] || { echo $$ >%s/sleeper; exec sleep "$seconds"; }\n[ $# -eq 0 ] || exec cat %s/answer\ncat\n' "$room" "$room" "$room" >"target/bin/$2"
-chmod +x "target/bin/$2"
-echo "rt: $2 proved (2 s)"
+mkdir -p out
+printf '#!/bin/sh\nread seconds <%s/pause\n[ "$seconds" -eq 0 ] || { echo $$ >%s/sleeper; exec sleep "$seconds"; }\n[ $# -eq 0 ] || exec cat %s/answer\ncat\n' "$room" "$room" "$room" >"out/$name"
+chmod +x "out/$name"
+echo "crate $name: modules loaded=0 checked=1"
+echo "logic=proved functions=2"
 KIT
 # The program that pretends runs on every processor.
 printf '#!/bin/sh\necho x86_64\n' >"$room/bin/uname"
@@ -36,7 +40,7 @@ echo 'a script' >"$room/script"
 
 # Begins anew with a kit like this: kit STATUS PAUSE
 kit() {
-    rm -rf "$root/target" "$room/uses" "$room/sleeper"
+    rm -rf "$root/target" "$root"/crates/*/out "$room/uses" "$room/sleeper"
     echo "$1" >"$room/status"
     echo "$2" >"$room/pause"
     cp kit.txt "$room/version"
@@ -68,7 +72,7 @@ holds "the script is not run" cmp "$room/script" "$room/printed"
 holds "it does not say how long it takes" grep -q 'usually' "$room/said"
 launch
 holds "a second launch says something" test ! -s "$room/said"
-touch "$root/crates/low"
+touch "$root/crates/low/src"
 launches 0 'the last time took [0-9]* seconds'
 
 # The programs whose first line says whether what they are asked is refused: who goes by a process, of which the argument is looked at before it is proved,

@@ -3,7 +3,7 @@
 set -uo pipefail
 cd "$(dirname "${BASH_SOURCE[0]}")/.."
 bad=0
-listed=$(sed -e 's/#.*//' -e '/^[[:space:]]*$/d' -e 's/:.*//' crates.txt | sort)
+listed=$(sed -e 's/#.*//' -e '/^[[:space:]]*$/d' -e 's/[: ].*//' crates.txt | sort)
 there=$(find crates -mindepth 1 -maxdepth 1 -printf '%f\n' | sort)
 if [ "$listed" != "$there" ]; then
     echo "crates.txt and crates/ differ:"

@@ -11,9 +11,10 @@ mkdir -p "$room/bin" "$room/tree/crates/low"
 cat >"$room/bin/rt" <<'KIT'
 #!/bin/sh
 echo used >>"${0%/bin/rt}/uses"
-mkdir -p target/staticlib
-: >target/staticlib/liblow.a
-[ ! -e "${0%/bin/rt}/changing" ] || { sleep 0.1; : >crates/low/source; }
+[ "$1" = lib ] || exit 1
+mkdir -p out
+: >out/liblow.a
+[ ! -e "${0%/bin/rt}/changing" ] || { sleep 0.1; : >source; }
 KIT
 printf '#!/bin/sh\necho x86_64\n' >"$room/bin/uname"
 chmod +x "$room/bin/rt" "$room/bin/uname"

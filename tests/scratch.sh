@@ -8,7 +8,7 @@ scratch='links_test groups_test index_test launch'
 
 # The library and what it rests on, by crates.txt, where a crate stands behind those that it names.
 crates=$(awk -F: -v top="$library" '
-    !/^#/ { name[++many] = $1; deps[$1] = $2 }
+    !/^#/ { sub(/ .*/, "", $1); name[++many] = $1; deps[$1] = $2 }
     END {
         wanted[top] = 1
         for (i = many; i > 0; i--) if (wanted[name[i]]) {

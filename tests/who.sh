@@ -172,7 +172,7 @@ run --help | grep -q 'icespruce who PID FILE' || wrong "the help does not name t
 # the program by itself, without the launcher
 for arguments in '' '1 2' x 4294967296; do
     [ "$(uname -m)" = x86_64 ] || break
-    fails 0 'usage: sgroup_who PID' "$root/target/bin/sgroup_who" $arguments
+    fails 0 'usage: sgroup_who PID' "$root/crates/sgroup_who/out/sgroup_who" $arguments
 done
 
 # ---- the page

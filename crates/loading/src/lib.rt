@@ -1,36 +1,46 @@
-// An open file, read to its end.
+// What the programs take from the system: an open file, read to its end; whether an argument is given; why a call failed.
 #![tactic(auto)]
+
+mod arguments;
+mod failing;
 
 ghost use Rattle.std.specs.Prelude.{◌≤◌, length};
 
-// How many bytes were read, and whether a read failed.
-#[derive(Clone, Copy)]
+pub use arguments::is_given;
+pub use failing::{fail, fail_to_write};
+use std::io;
+use std::io::Read;
+
+// How many bytes were read, and the error of a read that failed.
+#[derive(Drop)]
 pub struct Input {
     pub len: usize,
-    pub failed: bool,
+    pub failed: Option<io::Error>,
 }
 
 // Reads an open file to its end, or until buf is full.
-pub fn read_all(fd: i32, buf: &mut [u8]) -> Input
+pub fn read_all<R: Read>(from: &mut R, buf: &mut [u8]) -> Input
     ensures { result.len ≤ length buf.new }
 {
     let mut len = 0;
     while len < buf.len() {
-        let got = libc::read(fd, &mut buf[len..]);
-        if got < 0 {
-            return Input {
-                len: len,
-                failed: true,
-            };
+        match from.read(&mut buf[len..]) {
+            Err(error) => {
+                return Input {
+                    len: len,
+                    failed: Some(error),
+                };
+            }
+            Ok(more) => {
+                if more == 0 {
+                    break;
+                }
+                len += more;
+            }
         }
-        let more = io::count(got, &buf[len..]);
-        if more == 0 {
-            break;
-        }
-        len += more;
     }
     Input {
         len: len,
-        failed: false,
+        failed: None,
     }
 }

@@ -6,7 +6,11 @@ ghost use Rattle.sgroup_launch.specs.Report.{report, report_sure};
 
 use launch_expected::front;
 use launch_why::Asked;
-use libc::{STDERR_FILENO, STDOUT_FILENO};
+use std::env::{Env, FillError};
+use std::fs::File;
+use std::io::Write;
+use std::process::ExitCode;
+use std::{io, str};
 use text::{Half, Number};
 
 // How many bytes the longest book has: 64 atoms of nodes and 65,535 of groups, of 64 bytes each, with their newlines.
@@ -22,6 +26,9 @@ const FILE_ROOM: usize = FILE_LIMIT + 16;
 
 // What is said of 32 s_groups of 64 nodes with the longest atoms fits.
 const OUTPUT_ROOM: usize = 163840;
+
+// The longest name of a file that the system takes fits, with one byte more.
+const NAME_ROOM: usize = 4096;
 
 // The longest number has 20 digits.
 const DIGITS: usize = 20;
@@ -40,61 +47,62 @@ const START_ARG: usize = 5;
 // The arguments and the program's name.
 const ARG_COUNT: usize = 6;
 
+// The system's number for bytes that are no text, which a name of a file has to be.
+const NO_TEXT: i32 = 84;
+
 // How many bytes of a text were read, or that it cannot be.
-#[derive(Clone, Copy)]
+#[derive(Drop)]
 enum Loaded {
     Text(usize),
     Nothing,
 }
 
 // The numbers of the arguments, or that one of them is none.
-#[derive(Clone, Copy)]
+#[derive(Drop)]
 enum Numbers {
     Given(Asked),
     Bad,
 }
 
 // Writes a line to standard error, behind the program's name.
-fn complain(words: &[u8]) {
-    io::write_all(STDERR_FILENO, b"sgroup_launch: ");
-    io::write_all(STDERR_FILENO, words);
-    io::write_all(STDERR_FILENO, b"\n");
+fn complain(rt: &impl Eprint, words: &str) {
+    let _ = eprintln!(rt; "sgroup_launch: {words}");
 }
 
 // Says why a file cannot be read.
-fn complain_of(path: &[u8]) {
-    io::write_all(STDERR_FILENO, b"sgroup_launch: ");
-    os::fail(path);
+fn complain_of(rt: &HostRuntime, path: &[u8], error: &io::Error) {
+    let _ = rt.stderr().write_all(b"sgroup_launch: ");
+    loading::fail(&mut rt.stderr(), path, error);
 }
 
 // Says that a file has more bytes than are read.
-fn complain_length(path: &[u8], limit: usize) {
-    io::write_all(STDERR_FILENO, b"sgroup_launch: ");
-    io::write_all(STDERR_FILENO, path);
-    io::write_all(STDERR_FILENO, b": it has more than ");
-    io::print_decimal(STDERR_FILENO, limit as u64);
-    io::write_all(STDERR_FILENO, b" bytes\n");
+fn complain_length(rt: &HostRuntime, path: &[u8], limit: usize) {
+    let _ = rt.stderr().write_all(b"sgroup_launch: ");
+    let _ = rt.stderr().write_all(path);
+    let _ = eprintln!(rt; ": it has more than {limit} bytes");
 }
 
 // The number that an argument is.
-fn number_arg(i: usize) -> Number {
+fn number_arg(rt: &impl Env, i: usize) -> Number {
     let mut digits = [0u8; DIGITS];
-    let len = os::arg(i, &mut digits);
-    text::numeral(&digits[..len])
+    match rt.arg(i, &mut digits) {
+        Ok(len) => text::numeral(&digits[..len]),
+        Err(_) => Number::Bad,
+    }
 }
 
 // The numbers that the last three arguments are. It says which of them is none.
-fn asked_numbers() -> Numbers {
-    let Half::Is(n) = text::narrow(number_arg(SIZE_ARG)) else {
-        complain(b"N is a decimal number of at most 32 bits");
+fn asked_numbers(rt: &HostRuntime) -> Numbers {
+    let Half::Is(n) = text::narrow(number_arg(rt, SIZE_ARG)) else {
+        complain(rt, "N is a decimal number of at most 32 bits");
         return Numbers::Bad;
     };
-    let Number::Is(hidden) = number_arg(HIDDEN_ARG) else {
-        complain(b"HIDDEN is a decimal number of at most 64 bits");
+    let Number::Is(hidden) = number_arg(rt, HIDDEN_ARG) else {
+        complain(rt, "HIDDEN is a decimal number of at most 64 bits");
         return Numbers::Bad;
     };
-    let Half::Is(start) = text::narrow(number_arg(START_ARG)) else {
-        complain(b"START is a decimal number of at most 32 bits");
+    let Half::Is(start) = text::narrow(number_arg(rt, START_ARG)) else {
+        complain(rt, "START is a decimal number of at most 32 bits");
         return Numbers::Bad;
     };
     Numbers::Given(Asked {
@@ -105,36 +113,47 @@ fn asked_numbers() -> Numbers {
 }
 
 // Reads the file with this name, if it has no more bytes than the limit. It says why not.
-fn load(path: &[u8], limit: usize, room: &mut [u8]) -> Loaded {
-    let fd = os::open_read(path);
-    if fd < 0 {
-        complain_of(path);
-        return Loaded::Nothing;
-    }
-    let input = loading::read_all(fd, room);
-    if input.failed {
-        complain_of(path);
-    }
-    libc::close(fd);
-    if input.failed {
+fn load(rt: &HostRuntime, path: &[u8], limit: usize, room: &mut [u8]) -> Loaded {
+    let name = match str::from_utf8(path) {
+        Ok(name) => name,
+        Err(_) => {
+            complain_of(rt, path, &io::Error::from_raw_os_error(NO_TEXT));
+            return Loaded::Nothing;
+        }
+    };
+    let mut file = match File::open(rt, name) {
+        Ok(file) => file,
+        Err(error) => {
+            complain_of(rt, path, &error);
+            return Loaded::Nothing;
+        }
+    };
+    let input = loading::read_all(&mut file, room);
+    if let Some(error) = input.failed {
+        complain_of(rt, path, &error);
         return Loaded::Nothing;
     }
     let len = input.len;
     if limit < len {
-        complain_length(path, limit);
+        complain_length(rt, path, limit);
         return Loaded::Nothing;
     }
     Loaded::Text(len)
 }
 
 // Writes the name of a file, which is an argument, into a run.
-fn name_arg(i: usize, name: &mut [u8]) -> Loaded {
-    let len = os::arg(i, name);
-    if os::errno() != 0 {
-        complain_of(b"the name of a file");
-        return Loaded::Nothing;
+fn name_arg(rt: &HostRuntime, i: usize, name: &mut [u8]) -> Loaded {
+    match rt.arg(i, name) {
+        Ok(len) => Loaded::Text(len),
+        Err(FillError::TooLong) => {
+            complain(rt, "the name of a file: File name too long");
+            Loaded::Nothing
+        }
+        Err(FillError::NotPresent) => {
+            complain(rt, "the name of a file: Invalid argument");
+            Loaded::Nothing
+        }
     }
-    Loaded::Text(len)
 }
 
 // Launches, and puts what is to be said of it. The file stands in the first bytes of the room, so many; of a slip, those from its place on are lost.
@@ -179,18 +198,19 @@ fn put_report(
 
 // Reads the book and the file of these names into their rooms, launches, and writes out what is said of it.
 fn run_named(
+    rt: &HostRuntime,
     asked: Asked,
     book_name: &[u8],
     name: &[u8],
     book: &mut [u8],
     room: &mut [u8],
     out: &mut [u8],
-) {
-    let Loaded::Text(book_len) = load(book_name, BOOK_LIMIT, book) else {
-        return;
+) -> ExitCode {
+    let Loaded::Text(book_len) = load(rt, book_name, BOOK_LIMIT, book) else {
+        return ExitCode::SUCCESS;
     };
-    let Loaded::Text(len) = load(name, FILE_LIMIT, room) else {
-        return;
+    let Loaded::Text(len) = load(rt, name, FILE_LIMIT, room) else {
+        return ExitCode::SUCCESS;
     };
     let said = put_report(
         out,
@@ -201,42 +221,48 @@ fn run_named(
         room,
         len,
     );
-    if !io::write_all(STDOUT_FILENO, front(out, said)) {
-        os::fail(b"sgroup_launch: the output cannot be written");
+    if let Err(error) = rt.stdout().write_all(front(out, said)) {
+        return loading::fail_to_write(
+            &mut rt.stderr(),
+            b"sgroup_launch: the output cannot be written",
+            &error,
+        );
     }
+    ExitCode::SUCCESS
 }
 
 // Reads the arguments, then the texts into their rooms.
-fn run(book: &mut [u8], room: &mut [u8], out: &mut [u8]) {
-    if os::arg_count() != ARG_COUNT {
-        complain(b"usage: sgroup_launch BOOK FILE N HIDDEN START");
-        return;
+fn run(rt: &HostRuntime, book: &mut [u8], room: &mut [u8], out: &mut [u8]) -> ExitCode {
+    if !loading::is_given(rt, START_ARG) || loading::is_given(rt, ARG_COUNT) {
+        complain(rt, "usage: sgroup_launch BOOK FILE N HIDDEN START");
+        return ExitCode::SUCCESS;
     }
-    let Numbers::Given(asked) = asked_numbers() else {
-        return;
+    let Numbers::Given(asked) = asked_numbers(rt) else {
+        return ExitCode::SUCCESS;
     };
-    let mut book_name = io::buffer();
-    let Loaded::Text(b) = name_arg(BOOK_ARG, &mut book_name) else {
-        return;
+    let mut book_name = [0u8; NAME_ROOM];
+    let Loaded::Text(b) = name_arg(rt, BOOK_ARG, &mut book_name) else {
+        return ExitCode::SUCCESS;
     };
-    let mut name = io::buffer();
-    let Loaded::Text(f) = name_arg(FILE_ARG, &mut name) else {
-        return;
+    let mut name = [0u8; NAME_ROOM];
+    let Loaded::Text(f) = name_arg(rt, FILE_ARG, &mut name) else {
+        return ExitCode::SUCCESS;
     };
     run_named(
+        rt,
         asked,
         front(&book_name, b),
         front(&name, f),
         book,
         room,
         out,
-    );
+    )
 }
 
 // Lends the room for the book, the file and what is said of them.
-fn main() {
+fn main(rt: HostRuntime) -> ExitCode {
     let mut book = [0u8; BOOK_ROOM];
     let mut file = [0u8; FILE_ROOM];
     let mut out = [0u8; OUTPUT_ROOM];
-    run(&mut book, &mut file, &mut out);
+    run(&rt, &mut book, &mut file, &mut out)
 }

@@ -1,7 +1,8 @@
 // The program `sgroup_run`: reads a script from standard input, runs it on a table of zero words, and writes what it prints to standard output.
 #![tactic(auto)]
 
-use libc::{STDIN_FILENO, STDOUT_FILENO};
+use std::io::Write;
+use std::process::ExitCode;
 
 // The longest script, and one byte more by which a longer one is known.
 const INPUT_ROOM: usize = script::SCRIPT_LIMIT + 1;
@@ -10,13 +11,17 @@ const INPUT_ROOM: usize = script::SCRIPT_LIMIT + 1;
 const OUTPUT_ROOM: usize = 4096;
 
 // Runs the script of standard input on a table of zeros, piece by piece, and writes out what each piece prints.
-fn main() {
+fn main(rt: HostRuntime) -> ExitCode {
     let mut text = [0u8; INPUT_ROOM];
-    let input = loading::read_all(STDIN_FILENO, &mut text);
+    let input = loading::read_all(&mut rt.stdin(), &mut text);
     let n = input.len;
-    if input.failed {
-        os::fail(b"sgroup_run: the script cannot be read");
-        return;
+    if let Some(error) = input.failed {
+        loading::fail(
+            &mut rt.stderr(),
+            b"sgroup_run: the script cannot be read",
+            &error,
+        );
+        return ExitCode::SUCCESS;
     }
     let mut table = [0u64; layout::TABLE_WORDS];
     let mut out = [0u8; OUTPUT_ROOM];
@@ -24,10 +29,14 @@ fn main() {
     while at < n {
         let ran = script::run(&text[..n], at, &mut table, &mut out);
         let len = ran.len;
-        if !io::write_all(STDOUT_FILENO, &out[..len]) {
-            os::fail(b"sgroup_run: the output cannot be written");
-            return;
+        if let Err(error) = rt.stdout().write_all(&out[..len]) {
+            return loading::fail_to_write(
+                &mut rt.stderr(),
+                b"sgroup_run: the output cannot be written",
+                &error,
+            );
         }
         at = ran.next;
     }
+    ExitCode::SUCCESS
 }

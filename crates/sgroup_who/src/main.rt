@@ -6,7 +6,9 @@ ghost use Rattle.print.specs.Sheets.{sheet, put};
 ghost use Rattle.script.specs.Scripts.{lines_from, left};
 ghost use Rattle.sgroup_who.specs.Report.{told, report};
 
-use libc::{STDERR_FILENO, STDIN_FILENO, STDOUT_FILENO};
+use std::env::Env;
+use std::io::Write;
+use std::process::ExitCode;
 use text::Half;
 
 // The longest script, and one byte more by which a longer one is known.
@@ -30,30 +32,27 @@ const PID_ARG: usize = 1;
 const ARG_COUNT: usize = 2;
 
 // Writes a line to standard error, behind the program's name.
-fn complain(words: &[u8]) {
-    io::write_all(STDERR_FILENO, b"sgroup_who: ");
-    io::write_all(STDERR_FILENO, words);
-    io::write_all(STDERR_FILENO, b"\n");
+fn complain(rt: &impl Eprint, words: &str) {
+    let _ = eprintln!(rt; "sgroup_who: {words}");
 }
 
 // Says which line of the script is bad.
-fn complain_line(number: usize) {
-    io::write_all(STDERR_FILENO, b"sgroup_who: line ");
-    io::print_decimal(STDERR_FILENO, number as u64);
-    io::write_all(
-        STDERR_FILENO,
-        b" of the script is no command: it prints bad-line\n",
+fn complain_line(rt: &impl Eprint, number: usize) {
+    let _ = eprintln!(rt;
+        "sgroup_who: line {number} of the script is no command: it prints bad-line"
     );
 }
 
 // The pid that the argument is.
-fn pid_arg() -> Half {
-    if os::arg_count() != ARG_COUNT {
+fn pid_arg(rt: &impl Env) -> Half {
+    if !loading::is_given(rt, PID_ARG) || loading::is_given(rt, ARG_COUNT) {
         return Half::Bad;
     }
     let mut digits = [0u8; DIGITS];
-    let len = os::arg(PID_ARG, &mut digits);
-    text::narrow(text::numeral(&digits[..len]))
+    match rt.arg(PID_ARG, &mut digits) {
+        Ok(len) => text::narrow(text::numeral(&digits[..len])),
+        Err(_) => Half::Bad,
+    }
 }
 
 // Runs a script on the table.
@@ -91,42 +90,52 @@ fn put_report(out: &mut [u8], p: u32, script: &[u8]) -> usize
 }
 
 // Says who goes by the pid after a script, or why it is none.
-fn say(out: &mut [u8], p: u32, script: &[u8]) {
+fn say(rt: &HostRuntime, out: &mut [u8], p: u32, script: &[u8]) -> ExitCode {
     if script::SCRIPT_LIMIT < script.len() {
-        complain(b"the script is too long: it has more than 65536 bytes");
-        return;
+        complain(rt, "the script is too long: it has more than 65536 bytes");
+        return ExitCode::SUCCESS;
     }
     let bad = script::bad_line(script);
     if bad != 0 {
-        complain_line(bad);
-        return;
+        complain_line(rt, bad);
+        return ExitCode::SUCCESS;
     }
     let len = put_report(out, p, script);
-    if !io::write_all(STDOUT_FILENO, &out[..len]) {
-        os::fail(b"sgroup_who: the output cannot be written");
+    if let Err(error) = rt.stdout().write_all(&out[..len]) {
+        return loading::fail_to_write(
+            &mut rt.stderr(),
+            b"sgroup_who: the output cannot be written",
+            &error,
+        );
     }
+    ExitCode::SUCCESS
 }
 
 // Reads the argument, and the script of standard input into its room.
-fn run(text: &mut [u8], out: &mut [u8]) {
-    let Half::Is(p) = pid_arg() else {
+fn run(rt: &HostRuntime, text: &mut [u8], out: &mut [u8]) -> ExitCode {
+    let Half::Is(p) = pid_arg(rt) else {
         complain(
-            b"usage: sgroup_who PID, a decimal number of at most 32 bits, with the script on standard input",
+            rt,
+            "usage: sgroup_who PID, a decimal number of at most 32 bits, with the script on standard input",
         );
-        return;
+        return ExitCode::SUCCESS;
     };
-    let input = loading::read_all(STDIN_FILENO, text);
-    if input.failed {
-        os::fail(b"sgroup_who: the script cannot be read");
-        return;
+    let input = loading::read_all(&mut rt.stdin(), text);
+    if let Some(error) = input.failed {
+        loading::fail(
+            &mut rt.stderr(),
+            b"sgroup_who: the script cannot be read",
+            &error,
+        );
+        return ExitCode::SUCCESS;
     }
     let n = input.len;
-    say(out, p, &text[..n]);
+    say(rt, out, p, &text[..n])
 }
 
 // Lends the room for the script and what is said.
-fn main() {
+fn main(rt: HostRuntime) -> ExitCode {
     let mut text = [0u8; INPUT_ROOM];
     let mut out = [0u8; OUTPUT_ROOM];
-    run(&mut text, &mut out);
+    run(&rt, &mut text, &mut out)
 }

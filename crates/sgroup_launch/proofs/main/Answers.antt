@@ -1,8 +1,6 @@
 -- `sgroup_launch::main` is safe and ends. The lengths of its arrays are cited, since computing them would take too long.
--- Assumes nothing.
-use mathlib.Core.Path.{sym}
-use Prim.Native.Nat.{ℕ}
-use lib.ListN.{length-replicate}
+use Rattle.std.proofs.Common.{ℕ, sym}
+use Rattle.std.proofs.lemmas.List.{length-replicate}
 use Rattle.sgroup_launch.proofs.main.Goals as goal
 
 pub slice_bounds-run-end : goal.slice_bounds-run-end

@@ -1,16 +1,10 @@
--- `sgroup_run::main` is safe and ends: each run goes on by a line at least, so fewer bytes are left.
--- Assumes nothing.
-use mathlib.Core.Path.{sym}
-use native.Mathlib.Omega.{arith}
-use lib.Seq.{length-take-le}
+-- `sgroup_run::main` is safe and ends: what a run prints lies within its room, and each run goes on by a line at least.
+use Rattle.std.proofs.Common.{arith, sym, length-take-le}
 use Rattle.script.specs.Whole.{run-within, run-moves}
 use Rattle.sgroup_run.proofs.main.Goals as goal
 
-pub slice_bounds-run-end : goal.slice_bounds-run-end
-slice_bounds-run-end c = sym (length-take-le _ _ c.read_all-input.ensures)
-
 pub slice_bounds-out-end : goal.slice_bounds-out-end
-slice_bounds-out-end c = omega (arith, run-within _ _ _ _ _ _ _ _ c.run-ran.ensures)
+slice_bounds-out-end c = run-within _ _ _ _ _ _ _ _ c.run-ran.ensures
 
 pub slice_bounds-write_all-end : goal.slice_bounds-write_all-end
 slice_bounds-write_all-end c = sym (length-take-le _ _ (run-within _ _ _ _ _ _ _ _ c.run-ran.ensures))

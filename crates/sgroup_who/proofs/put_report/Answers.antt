@@ -1,6 +1,5 @@
 -- `sgroup_who::put_report` meets its contract: what is said in the table that the script leaves.
--- Assumes nothing.
-use mathlib.Core.Path.{ap, ◌∙◌}
+use Rattle.std.proofs.Common.{ap, ◌∙◌}
 use Rattle.print.specs.Sheets.{put}
 use Rattle.sgroup_who.specs.Reported.{after-script}
 use Rattle.sgroup_who.proofs.put_report.Goals as goal

@@ -1,8 +1,5 @@
--- `sgroup_who::run_script` meets its contract: what all lines leave is what those that are left leave.
--- Assumes nothing.
-use mathlib.Core.Path.{◌≡◌}
-use Prim.Native.Nat.{◌-◌}
-use lib.ListN.{length}
+-- The loop of `sgroup_who::run_script`: what all lines leave is what those that are left leave.
+use Rattle.std.proofs.Common.{length, ◌-◌, ◌≡◌}
 use Rattle.script.specs.Scripts.{lines_from, left}
 use Rattle.sgroup_who.proofs.run_script.Given as goal
 

@@ -1,8 +1,5 @@
 -- `sgroup_who::say` is safe and ends: what was put lies within the run.
--- Assumes nothing.
-use mathlib.Core.Path.{sym}
-use native.Mathlib.Omega.{arith}
-use lib.Seq.{length-take-le}
+use Rattle.std.proofs.Common.{arith, sym, length-take-le}
 use Rattle.print.specs.Putting.{stays_within}
 use Rattle.sgroup_who.proofs.say.Goals as goal
 

@@ -13,14 +13,10 @@ pub returns-then-text-i-eq93 : goal.returns-then-text-i-eq93
 unfolding entry_at entry_from
 returns-then-text-i-eq93 c = rw (← c.past_white-i.ensures, lt-ltb _ _ c.if-text-i.false, eq-eqb _ _ c.if-text-i-eq93.true)
 
--- CONVERT: w.3 is a field w.VARIABLE-is now
--- CONVERT: w.2 is a field w.VARIABLE-is now
 pub returns-in-Past : goal.returns-in-Past
 unfolding entry_at entry_from
-returns-in-Past c = rw (← c.past_white-i.ensures, lt-ltb _ _ c.if-text-i.false, ne_eqb _ _ c.if-text-i-eq93.false, ← (let the : let a = c.args in c.if-begun.bracket ≡ bracket_at a.text.now c.past_white-i.result a.begun = elim c.if-begun.branch [ then-begun w ↦ rw (w.3, w.then_sign-bracket.ensures, w.sign_at.ensures, w.if-begun.true) | else-begun w ↦ rw (w.2, w.sign_at-bracket.ensures, w.if-begun.false) ] in the), c.in-Past.is)
+returns-in-Past c = rw (← c.past_white-i.ensures, lt-ltb _ _ c.if-text-i.false, ne_eqb _ _ c.if-text-i-eq93.false, ← (let the : let a = c.args in c.if-begun.bracket ≡ bracket_at a.text.now c.past_white-i.result a.begun = elim c.if-begun.branch [ then-begun w ↦ rw (w.bracket-is, w.then_sign-bracket.ensures, w.sign_at.ensures, w.if-begun.true) | else-begun w ↦ rw (w.bracket-is, w.sign_at-bracket.ensures, w.if-begun.false) ] in the), c.in-Past.is)
 
--- CONVERT: w.3 is a field w.VARIABLE-is now
--- CONVERT: w.2 is a field w.VARIABLE-is now
 pub returns-in-Stop : goal.returns-in-Stop
 unfolding entry_at entry_from
-returns-in-Stop c = rw (← c.past_white-i.ensures, lt-ltb _ _ c.if-text-i.false, ne_eqb _ _ c.if-text-i-eq93.false, ← (let the : let a = c.args in c.if-begun.bracket ≡ bracket_at a.text.now c.past_white-i.result a.begun = elim c.if-begun.branch [ then-begun w ↦ rw (w.3, w.then_sign-bracket.ensures, w.sign_at.ensures, w.if-begun.true) | else-begun w ↦ rw (w.2, w.sign_at-bracket.ensures, w.if-begun.false) ] in the), c.in-Stop.is)
+returns-in-Stop c = rw (← c.past_white-i.ensures, lt-ltb _ _ c.if-text-i.false, ne_eqb _ _ c.if-text-i-eq93.false, ← (let the : let a = c.args in c.if-begun.bracket ≡ bracket_at a.text.now c.past_white-i.result a.begun = elim c.if-begun.branch [ then-begun w ↦ rw (w.bracket-is, w.then_sign-bracket.ensures, w.sign_at.ensures, w.if-begun.true) | else-begun w ↦ rw (w.bracket-is, w.sign_at-bracket.ensures, w.if-begun.false) ] in the), c.in-Stop.is)

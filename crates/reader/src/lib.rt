@@ -1,5 +1,5 @@
-// A reader: the text of a launch file together with a place in it, which messages name. The borrow checker covers no function
-// over such a struct, so each is thin, takes the struct apart for a covered function, and is proved by hand.
+// A reader: the text of a launch file together with a place in it, which messages name. Each function is thin: it takes the
+// struct apart for a function of a crate below, or makes one for a function above.
 #![tactic(auto)]
 
 ghost use Rattle.std.specs.Prelude.{◌≡◌};

@@ -4,10 +4,10 @@ use Rattle.launch_file.specs.Lists.{front_cut, front-stops, front_read}
 use Rattle.launch_file.proofs.front.Goals as goal
 
 pub returns-in-Stop : goal.returns-in-Stop
-returns-in-Stop c = front_cut _ _ (sym c.sign_at.ensures ∙ c.in-Stop.is)
+returns-in-Stop c = front_cut _ _ (sym c.in-Stop.ensures)
 
 pub returns-in-Stop-to_own : goal.returns-in-Stop-to_own
-returns-in-Stop-to_own c = front-stops _ _ (sym c.sign_at.ensures ∙ c.in-Past.is) _ (rw c.in-Stop-to_own.is at c.to_own.ensures)
+returns-in-Stop-to_own c = front-stops _ _ (sym c.in-Past.ensures) _ c.in-Stop-to_own.ensures
 
 pub returns-in-Past-to_own : goal.returns-in-Past-to_own
-returns-in-Past-to_own c = front_read _ _ (sym c.sign_at.ensures ∙ c.in-Past.is) _ (rw c.in-Past-to_own.is at c.to_own.ensures) c.to_own-in-Past-to_own.result c.to_own-in-Past-to_own.ensures
+returns-in-Past-to_own c = front_read _ _ (sym c.in-Past.ensures) _ c.in-Past-to_own.ensures c.to_own-in-Past-to_own.result c.to_own-in-Past-to_own.ensures

@@ -9,18 +9,18 @@ use Rattle.launch_file.proofs.next_pair.Goals as goal
 pub overflow_sub-bracket : goal.overflow_sub-bracket
 overflow_sub-bracket c =
     let a = c.args in
-    omega (arith, closed-within _ _ _ a.own.now a.found _ ((sym (c.entry_at.ensures ∙ rw (part_to_end c.args.text.now 0))) ∙ c.in-Closed.is))
+    omega (arith, closed-within _ _ _ a.own.now a.found _ (rw (part_to_end c.args.text.now 0) at (sym c.in-Closed.ensures)))
 
 pub returns-then-found : goal.returns-then-found
-returns-then-found c = next-closed _ _ _ _ _ _ ((sym (c.entry_at.ensures ∙ rw (part_to_end c.args.text.now 0))) ∙ c.in-Closed.is) c.if-found.true
+returns-then-found c = next-closed _ _ _ _ _ _ (rw (part_to_end c.args.text.now 0) at (sym c.in-Closed.ensures)) c.if-found.true
 
 pub returns-in-Group : goal.returns-in-Group
 returns-in-Group c =
     let a = c.args in
-    next-pairs _ _ _ _ _ _ ((sym (c.entry_at.ensures ∙ rw (part_to_end c.args.text.now 0))) ∙ c.in-Group.is) _ (rw (part_to_end a.text.now 0, part_to_end a.own.now 0) at c.pair_at.ensures)
+    next-pairs _ _ _ _ _ _ (rw (part_to_end c.args.text.now 0) at (sym c.in-Group.ensures)) _ (rw (part_to_end a.text.now 0, part_to_end a.own.now 0) at c.pair_at.ensures)
 
 pub returns-in-Stop : goal.returns-in-Stop
-returns-in-Stop c = next-stops _ _ _ _ _ _ ((sym (c.entry_at.ensures ∙ rw (part_to_end c.args.text.now 0))) ∙ c.in-Stop.is)
+returns-in-Stop c = next-stops _ _ _ _ _ _ (rw (part_to_end c.args.text.now 0) at (sym c.in-Stop.ensures))
 
 pub returns-else-found : goal.returns-else-found
-returns-else-found c = next-missing _ _ _ _ _ _ ((sym (c.entry_at.ensures ∙ rw (part_to_end c.args.text.now 0))) ∙ c.in-Closed.is) c.if-found.false
+returns-else-found c = next-missing _ _ _ _ _ _ (rw (part_to_end c.args.text.now 0) at (sym c.in-Closed.ensures)) c.if-found.false

@@ -4,13 +4,13 @@ use Rattle.launch_file.specs.Pairs.{other_cut, other-read, other-ends}
 use Rattle.launch_file.proofs.other_pair.Goals as goal
 
 pub returns-in-Stop : goal.returns-in-Stop
-returns-in-Stop c = other_cut _ _ _ _ (sym c.sign_at.ensures ∙ c.in-Stop.is)
+returns-in-Stop c = other_cut _ _ _ _ (sym c.in-Stop.ensures)
 
 pub returns-in-Stop-skip_value : goal.returns-in-Stop-skip_value
-returns-in-Stop-skip_value c = other-read _ _ _ _ (sym c.sign_at.ensures ∙ c.in-Past.is) _ (rw c.in-Stop-skip_value.is at c.skip_value.ensures)
+returns-in-Stop-skip_value c = other-read _ _ _ _ (sym c.in-Past.ensures) _ c.in-Stop-skip_value.ensures
 
 pub returns-in-Stop-sign_at : goal.returns-in-Stop-sign_at
-returns-in-Stop-sign_at c = other-ends _ _ _ _ _ (sym c.sign_at.ensures ∙ c.in-Past.is) (rw c.in-Behind.is at c.skip_value.ensures) _ (sym c.sign_at-in-Behind.ensures ∙ c.in-Stop-sign_at.is)
+returns-in-Stop-sign_at c = other-ends _ _ _ _ _ (sym c.in-Past.ensures) c.in-Behind.ensures _ (sym c.in-Stop-sign_at.ensures)
 
 pub returns-in-Past-sign_at : goal.returns-in-Past-sign_at
-returns-in-Past-sign_at c = other-ends _ _ _ _ _ (sym c.sign_at.ensures ∙ c.in-Past.is) (rw c.in-Behind.is at c.skip_value.ensures) _ (sym c.sign_at-in-Behind.ensures ∙ c.in-Past-sign_at.is)
+returns-in-Past-sign_at c = other-ends _ _ _ _ _ (sym c.in-Past.ensures) c.in-Behind.ensures _ (sym c.in-Past-sign_at.ensures)

@@ -12,10 +12,10 @@ pub returns-in-Stop : goal.returns-in-Stop
 returns-in-Stop c = (rest-cut _ _ _ ((let the : let a = c.args in then_sign a.text.now (pass_groups a.text.now a.g) (ascii close_tuple) ≡ _ = rw (← c.pass_groups.ensures, ← c.then_sign.ensures) c.in-Stop.is in the)), λ k e. refused-place _ _ k e)
 
 pub returns-in-Stop-then_sign : goal.returns-in-Stop-then_sign
-returns-in-Stop-then_sign c = (rest-open _ _ _ ((let the : let a = c.args in then_sign a.text.now (pass_groups a.text.now a.g) (ascii close_tuple) ≡ Step.Past c.in-Past.n = (let the : let a = c.args in then_sign a.text.now (pass_groups a.text.now a.g) (ascii close_tuple) ≡ _ = rw (← c.pass_groups.ensures, ← c.then_sign.ensures) c.in-Past.is in the) in the)) c.to_end.result c.to_end.ensures _ (sym c.then_sign-in-Past.ensures ∙ c.in-Stop-then_sign.is), λ k e. refused-place _ _ k e)
+returns-in-Stop-then_sign c = (rest-open _ _ _ ((let the : let a = c.args in then_sign a.text.now (pass_groups a.text.now a.g) (ascii close_tuple) ≡ Step.Past c.in-Past.n = (let the : let a = c.args in then_sign a.text.now (pass_groups a.text.now a.g) (ascii close_tuple) ≡ _ = rw (← c.pass_groups.ensures, ← c.then_sign.ensures) c.in-Past.is in the) in the)) c.to_end.result c.to_end.ensures _ (sym c.in-Stop-then_sign.ensures), λ k e. refused-place _ _ k e)
 
 pub returns-in-Stop-to_end : goal.returns-in-Stop-to_end
-returns-in-Stop-to_end c = (rest-stops _ _ _ ((let the : let a = c.args in then_sign a.text.now (pass_groups a.text.now a.g) (ascii close_tuple) ≡ Step.Past c.in-Past.n = (let the : let a = c.args in then_sign a.text.now (pass_groups a.text.now a.g) (ascii close_tuple) ≡ _ = rw (← c.pass_groups.ensures, ← c.then_sign.ensures) c.in-Past.is in the) in the)) c.to_end.result c.to_end.ensures _ ((sym c.then_sign-in-Past.ensures ∙ c.in-Past-then_sign.is)) _ (rw c.in-Stop-to_end.is at c.to_end-in-Past-then_sign.ensures), λ k e. refused-place _ _ k e)
+returns-in-Stop-to_end c = (rest-stops _ _ _ ((let the : let a = c.args in then_sign a.text.now (pass_groups a.text.now a.g) (ascii close_tuple) ≡ Step.Past c.in-Past.n = (let the : let a = c.args in then_sign a.text.now (pass_groups a.text.now a.g) (ascii close_tuple) ≡ _ = rw (← c.pass_groups.ensures, ← c.then_sign.ensures) c.in-Past.is in the) in the)) c.to_end.result c.to_end.ensures _ ((sym c.in-Past-then_sign.ensures)) _ c.in-Stop-to_end.ensures, λ k e. refused-place _ _ k e)
 
 pub returns-in-Past-to_end : goal.returns-in-Past-to_end
-returns-in-Past-to_end c = (rw c.ending.ensures (rest_read _ _ _ ((let the : let a = c.args in then_sign a.text.now (pass_groups a.text.now a.g) (ascii close_tuple) ≡ Step.Past c.in-Past.n = (let the : let a = c.args in then_sign a.text.now (pass_groups a.text.now a.g) (ascii close_tuple) ≡ _ = rw (← c.pass_groups.ensures, ← c.then_sign.ensures) c.in-Past.is in the) in the)) c.to_end.result c.to_end.ensures _ ((sym c.then_sign-in-Past.ensures ∙ c.in-Past-then_sign.is)) _ (rw c.in-Past-to_end.is at c.to_end-in-Past-then_sign.ensures)), λ k e. whole-place _ _ _ k (sym c.ending.ensures ∙ e))
+returns-in-Past-to_end c = (rw c.ending.ensures (rest_read _ _ _ ((let the : let a = c.args in then_sign a.text.now (pass_groups a.text.now a.g) (ascii close_tuple) ≡ Step.Past c.in-Past.n = (let the : let a = c.args in then_sign a.text.now (pass_groups a.text.now a.g) (ascii close_tuple) ≡ _ = rw (← c.pass_groups.ensures, ← c.then_sign.ensures) c.in-Past.is in the) in the)) c.to_end.result c.to_end.ensures _ ((sym c.in-Past-then_sign.ensures)) _ c.in-Past-to_end.ensures), λ k e. whole-place _ _ _ k (sym c.ending.ensures ∙ e))

@@ -13,13 +13,12 @@ loop-i-init c = begun _ _ _
 pub returns-then-at-i : goal.returns-then-at-i
 returns-then-at-i c = arrived c.loop-i.invariant c.if-at-i.true
 
--- CONVERT: w.1 is a field w.VARIABLE-is now
 pub loop-i-preserved : goal.loop-i-preserved
 loop-i-preserved c =
     let at = c.loop-i in
     let here = c.loop-i-test.true in
     let short = c.if-at-i.false in
-    elim c.if-text-i-eq10.branch [ then-text-i-eq10 w ↦ stepped at.invariant here short (w.1 ∙ sym (rw (eq-eqb _ _ w.if-text-i-eq10.true))) (omega (arith, w.1, at.invariant.few)) | else-text-i-eq10 w ↦ stepped at.invariant here short (w.1 ∙ sym (rw (ne_eqb _ _ w.if-text-i-eq10.false))) (omega (arith, w.1, at.invariant.few)) ]
+    elim c.if-text-i-eq10.branch [ then-text-i-eq10 w ↦ stepped at.invariant here short (w.n-is ∙ sym (rw (eq-eqb _ _ w.if-text-i-eq10.true))) (omega (arith, w.n-is, at.invariant.few)) | else-text-i-eq10 w ↦ stepped at.invariant here short (w.n-is ∙ sym (rw (ne_eqb _ _ w.if-text-i-eq10.false))) (omega (arith, w.n-is, at.invariant.few)) ]
 
 pub returns : goal.returns
 returns c = ended c.loop-i.invariant c.loop-i-test.false

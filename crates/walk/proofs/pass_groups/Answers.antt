@@ -17,20 +17,20 @@ pub loop-n-init : goal.loop-n-init
 loop-n-init c = refl
 
 pub returns-in-Closed : goal.returns-in-Closed
-returns-in-Closed c = sym ((let the : let a = c.args in pass_groups a.text.now a.at ≡ pass_entry a.text.now (later a.text.now) _ = c.loop-n.invariant ∙ pass_groups-unfold _ _ _ ∙ ap (pass_entry _ (later _)) (sym c.entry_at.ensures ∙ c.in-Closed.is) in the))
+returns-in-Closed c = sym ((c.loop-n.invariant ∙ pass_groups-unfold _ _ _ ∙ ap (pass_entry c.args.text.now (later c.args.text.now)) (sym c.in-Closed.ensures)))
 
 pub returns-in-Stop : goal.returns-in-Stop
-returns-in-Stop c = sym ((let the : let a = c.args in pass_groups a.text.now a.at ≡ pass_entry a.text.now (later a.text.now) _ = c.loop-n.invariant ∙ pass_groups-unfold _ _ _ ∙ ap (pass_entry _ (later _)) (sym c.entry_at.ensures ∙ c.in-Stop.is) in the))
+returns-in-Stop c = sym ((c.loop-n.invariant ∙ pass_groups-unfold _ _ _ ∙ ap (pass_entry c.args.text.now (later c.args.text.now)) (sym c.in-Stop.ensures)))
 
 pub returns-in-Stop-head_at : goal.returns-in-Stop-head_at
-returns-in-Stop-head_at c = sym ((let the : let a = c.args in pass_groups a.text.now a.at ≡ pass_group a.text.now (later a.text.now) _ = (let the : let a = c.args in pass_groups a.text.now a.at ≡ pass_entry a.text.now (later a.text.now) _ = c.loop-n.invariant ∙ pass_groups-unfold _ _ _ ∙ ap (pass_entry _ (later _)) (sym c.entry_at.ensures ∙ c.in-Group.is) in the) ∙ ap (pass_group _ (later _)) (sym c.head_at.ensures ∙ c.in-Stop-head_at.is) in the))
+returns-in-Stop-head_at c = sym (((c.loop-n.invariant ∙ pass_groups-unfold _ _ _ ∙ ap (pass_entry c.args.text.now (later c.args.text.now)) (sym c.in-Group.ensures)) ∙ ap (pass_group c.args.text.now (later c.args.text.now)) (sym c.in-Stop-head_at.ensures)))
 
 pub returns-in-Stop-pass_nodes : goal.returns-in-Stop-pass_nodes
-returns-in-Stop-pass_nodes c = sym ((let the : let a = c.args in pass_groups a.text.now a.at ≡ pass_head a.text.now (later a.text.now) _ = (let the : let a = c.args in pass_groups a.text.now a.at ≡ pass_group a.text.now (later a.text.now) _ = (let the : let a = c.args in pass_groups a.text.now a.at ≡ pass_entry a.text.now (later a.text.now) _ = c.loop-n.invariant ∙ pass_groups-unfold _ _ _ ∙ ap (pass_entry _ (later _)) (sym c.entry_at.ensures ∙ c.in-Group.is) in the) ∙ ap (pass_group _ (later _)) (sym c.head_at.ensures ∙ c.in-Is.is) in the) ∙ ap (pass_head _ (later _)) (sym c.pass_nodes.ensures ∙ c.in-Stop-pass_nodes.is) in the))
+returns-in-Stop-pass_nodes c = sym ((((c.loop-n.invariant ∙ pass_groups-unfold _ _ _ ∙ ap (pass_entry c.args.text.now (later c.args.text.now)) (sym c.in-Group.ensures)) ∙ ap (pass_group c.args.text.now (later c.args.text.now)) (sym c.in-Is.ensures)) ∙ ap (pass_head c.args.text.now (later c.args.text.now)) (sym c.in-Stop-pass_nodes.ensures)))
 
 pub loop-n-smaller : goal.loop-n-smaller
 loop-n-smaller c =
-    omega (arith, group-ahead _ _ _ _ (sym c.entry_at.ensures ∙ c.in-Group.is), head-ahead _ _ _ _ _ (sym c.head_at.ensures ∙ c.in-Is.is), nodes-ahead _ _ _ (sym c.pass_nodes.ensures ∙ c.in-Past.is))
+    omega (arith, group-ahead _ _ _ _ (sym c.in-Group.ensures), head-ahead _ _ _ _ _ (sym c.in-Is.ensures), nodes-ahead _ _ _ (sym c.in-Past.ensures))
 
 pub loop-n-preserved : goal.loop-n-preserved
-loop-n-preserved c = (let the : let a = c.args in pass_groups a.text.now a.at ≡ pass_head a.text.now (later a.text.now) _ = (let the : let a = c.args in pass_groups a.text.now a.at ≡ pass_group a.text.now (later a.text.now) _ = (let the : let a = c.args in pass_groups a.text.now a.at ≡ pass_entry a.text.now (later a.text.now) _ = c.loop-n.invariant ∙ pass_groups-unfold _ _ _ ∙ ap (pass_entry _ (later _)) (sym c.entry_at.ensures ∙ c.in-Group.is) in the) ∙ ap (pass_group _ (later _)) (sym c.head_at.ensures ∙ c.in-Is.is) in the) ∙ ap (pass_head _ (later _)) (sym c.pass_nodes.ensures ∙ c.in-Past.is) in the)
+loop-n-preserved c = (((c.loop-n.invariant ∙ pass_groups-unfold _ _ _ ∙ ap (pass_entry c.args.text.now (later c.args.text.now)) (sym c.in-Group.ensures)) ∙ ap (pass_group c.args.text.now (later c.args.text.now)) (sym c.in-Is.ensures)) ∙ ap (pass_head c.args.text.now (later c.args.text.now)) (sym c.in-Past.ensures))

@@ -10,13 +10,13 @@ pub loop-n-init : goal.loop-n-init
 loop-n-init c = refl
 
 pub loop-n-smaller : goal.loop-n-smaller
-loop-n-smaller c = omega (arith, node-ahead _ _ _ _ _ ((sym c.node_at.ensures ∙ c.in-More.is)))
+loop-n-smaller c = omega (arith, node-ahead _ _ _ _ _ (sym c.in-More.ensures))
 
 pub loop-n-preserved : goal.loop-n-preserved
-loop-n-preserved c = (let the : let a = c.args in pass_nodes a.text.now a.at ≡ pass_by (pass_nodes a.text.now) _ = c.loop-n.invariant ∙ pass_nodes-unfold _ _ ∙ ap (pass_by (pass_nodes _)) ((sym c.node_at.ensures ∙ c.in-More.is)) in the)
+loop-n-preserved c = (c.loop-n.invariant ∙ pass_nodes-unfold _ _ ∙ ap (pass_by (pass_nodes _)) (sym c.in-More.ensures))
 
 pub returns-in-Last : goal.returns-in-Last
-returns-in-Last c = sym ((let the : let a = c.args in pass_nodes a.text.now a.at ≡ pass_by (pass_nodes a.text.now) _ = c.loop-n.invariant ∙ pass_nodes-unfold _ _ ∙ ap (pass_by (pass_nodes _)) ((sym c.node_at.ensures ∙ c.in-Last.is)) in the))
+returns-in-Last c = sym ((c.loop-n.invariant ∙ pass_nodes-unfold _ _ ∙ ap (pass_by (pass_nodes _)) (sym c.in-Last.ensures)))
 
 pub returns-in-Stop : goal.returns-in-Stop
-returns-in-Stop c = sym ((let the : let a = c.args in pass_nodes a.text.now a.at ≡ pass_by (pass_nodes a.text.now) _ = c.loop-n.invariant ∙ pass_nodes-unfold _ _ ∙ ap (pass_by (pass_nodes _)) ((sym c.node_at.ensures ∙ c.in-Stop.is)) in the))
+returns-in-Stop c = sym ((c.loop-n.invariant ∙ pass_nodes-unfold _ _ ∙ ap (pass_by (pass_nodes _)) (sym c.in-Stop.ensures)))

@@ -15,4 +15,4 @@ put-reason-requires c = c.if-answer-lt-ANSWER_WORDS.false
 pub returns : goal.returns
 returns c =
     let a = c.args in
-    let both = launch-tells a.n a.hidden a.start a.book.now a.file.now a.table.now a.answer.now c.if-answer-lt-ANSWER_WORDS.false (c.launch-launched.ensures.answer_value, c.launch-launched.ensures.place_value, c.launch-launched.ensures.t_after) (c.put-reason.ensures.value, c.put-reason.ensures.run_after) in record { value = both.0; answer_after = both.1.0; table_after = both.1.1 }
+    let both = launch-tells a.n a.hidden a.start a.book.now a.file.now a.table.now a.answer.now c.if-answer-lt-ANSWER_WORDS.false (c.launch-launched.ensures.answer_value, (c.launch-launched.ensures.place_value, c.launch-launched.ensures.t_after)) (c.put-reason.ensures.value, c.put-reason.ensures.run_after) in record { value = both.0; answer_after = both.1.0; table_after = both.1.1 }

@@ -16,4 +16,4 @@ put-requires c = c.if-answer-lt-ANSWER_WORDS.false
 pub returns : goal.returns
 returns c =
     let a = c.args in
-    let both = tells-indexed (opened a.n a.hidden a.table.now a.index.now) a.answer.now [] a.table.now a.index.now c.if-answer-lt-ANSWER_WORDS.false (c.open.ensures.value, c.open.ensures.table_after, c.open.ensures.index_after) (c.put.ensures.value, c.put.ensures.run_after) in record { value = both.0; answer_after = both.1.0; table_after = both.1.1.0; index_after = both.1.1.1 }
+    let both = tells-indexed (opened a.n a.hidden a.table.now a.index.now) a.answer.now [] a.table.now a.index.now c.if-answer-lt-ANSWER_WORDS.false (c.open.ensures.value, (c.open.ensures.table_after, c.open.ensures.index_after)) (c.put.ensures.value, c.put.ensures.run_after) in record { value = both.0; answer_after = both.1.0; table_after = both.1.1.0; index_after = both.1.1.1 }

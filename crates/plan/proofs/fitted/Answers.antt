@@ -1,8 +1,7 @@
 -- `plan::fitted` meets its contract: between two groups, what is kept of those before is counted, known and written. Assumes nothing.
-use mathlib.Core.Path.{◌≡◌, sym, ap, ◌∙◌}
+use mathlib.Core.Path.{◌≡◌, sym, ◌∙◌}
 use Prim.Native.Nat.{ℕ}
 use native.Mathlib.Omega.{arith}
-use lib.ListN.{length}
 use Rattle.duplicates.specs.Next.{group-found}
 use Rattle.plan.specs.Looked.{woven-room, entered-told}
 use Rattle.plan.specs.Turns.{taken_none, taken-left, taken-unknown, taken_made, taken-too-many, taken-fits, taken-words}

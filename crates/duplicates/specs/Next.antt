@@ -1,20 +1,14 @@
 -- The next group of a list of groups, and the walks along the groups and along the nodes of one, step by step. Assumes nothing.
 use Rattle.std.specs.Prelude.{◌≡◌, Bool, true, List, [], ◌∷◌, ℕ, ◌<◌}
 use native.Mathlib.Omega.{arith}
-use Rattle.grammar.specs.File.{Group}
 use Rattle.walk.specs.Walk.{part, head_at, node_at, entry_at}
 use Rattle.walk.specs.Groups.{nodes_by, nodes, pass_nodes, group_by, head_by, entry_by, groups_from}
 use Rattle.walk.specs.Unfold.{IsAhead, IsInside, StepOn, AtomOn, NodeOn, EntryOn, node_at-on, head-on, entry_at-on, pass_nodes-on, nodes-unfold, groups-unfold}
 use Rattle.walk.specs.declared.Step.{Step}
-use Rattle.walk.specs.declared.Step.TheVariants as Step
 use Rattle.walk.specs.declared.Atom.{Atom}
-use Rattle.walk.specs.declared.Atom.TheVariants as Atom
 use Rattle.walk.specs.declared.Node.{Node}
-use Rattle.walk.specs.declared.Node.TheVariants as Node
 use Rattle.walk.specs.declared.Entry.{Entry}
-use Rattle.walk.specs.declared.Entry.TheVariants as Entry
 use Rattle.duplicates.specs.declared.Found.{Found}
-use Rattle.duplicates.specs.declared.Found.TheVariants as Found
 
 -- ---- the next group
 

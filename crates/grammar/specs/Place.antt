@@ -1,11 +1,11 @@
 -- The place of a refusal: how many leading bytes some launch file shares with the refused text. Assumes nothing.
-use Rattle.std.specs.Prelude.{◌≡◌, refl, Bool, true, false, cond, List, [], ◌∷◌, ◌++◌, ℕ, zero, suc, ◌+◌, ◌-◌, ◌≤◌, ◌<◌, eqb, ltb, length, take}
-use Rattle.std.proofs.Common.{sym, ap, ◌∙◌, arith, eq-eqb, ltb-true, ltb-false}
+use Rattle.std.specs.Prelude.{◌≡◌, refl, Bool, true, false, cond, List, [], ◌∷◌, ◌++◌, ℕ, zero, suc, ◌+◌, ◌-◌, ◌≤◌, ◌<◌, ltb, length, take}
+use Rattle.std.proofs.Common.{arith, eq-eqb, ltb-true, ltb-false}
 use Rattle.std.proofs.Math.Seq.{take-nil}
 use Rattle.tokens.specs.Bytes.{white, name_byte}
 use Rattle.tokens.specs.Reserved.{bytes, same, among, reserved_words, is_reserved}
 use Rattle.tokens.specs.Words.{no_zero, unlike, not-reserved}
-use Rattle.grammar.specs.File.{Group, Level, file, kernel, Here, Sign, comma, open_list, close_list, open_tuple, close_tuple, ascii, Bracket, list, tuple, closing, own_key, Use, key, name, node, Phase, sign, letters, atom, plain, quoted, first_pair, next_pair, first_group, next_group, kind, next_node, value, first, after, word, other, digits, full_stop, Move, goes, stops, dead, spaced, reads, ends_pairs, keyed, named, node_next, opens, begins, closes, separates, follows, step, Outcome, taken, refused, ends, onward, rest, outcome}
+use Rattle.grammar.specs.File.{Group, Level, file, kernel, Here, comma, open_list, close_list, open_tuple, close_tuple, ascii, Bracket, list, tuple, closing, own_key, Use, key, name, node, Phase, sign, letters, atom, plain, quoted, first_pair, next_pair, first_group, next_group, kind, next_node, value, first, after, word, other, digits, full_stop, Move, goes, stops, dead, spaced, reads, ends_pairs, keyed, named, node_next, opens, begins, closes, separates, follows, step, Outcome, taken, refused, ends, onward, rest, outcome}
 
 -- some launch file begins with the first n bytes of t
 unfoldable pub Shares : List ℕ → ℕ → Type 0

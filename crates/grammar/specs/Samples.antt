@@ -1,8 +1,8 @@
 -- Texts with their outcomes, as the definition computes them. Assumes nothing.
-use Rattle.std.specs.Prelude.{◌≡◌, refl, List, [], ◌∷◌, ℕ}
+use Rattle.std.specs.Prelude.{◌≡◌, refl, [], ◌∷◌}
 use Rattle.tokens.specs.Bytes.{name_byte}
 use Rattle.tokens.specs.Reserved.{bytes, among, reserved_words, is_reserved}
-use Rattle.grammar.specs.File.{Group, taken, refused, spaced, reads, ends_pairs, keyed, named, node_next, opens, begins, closes, separates, follows, step, ends, rest, outcome}
+use Rattle.grammar.specs.File.{taken, refused, spaced, reads, ends_pairs, keyed, named, node_next, opens, begins, closes, separates, follows, step, ends, rest, outcome}
 
 -- the least file
 the-smallest : outcome (bytes "[{kernel,[{s_groups,[]}]}].") ≡ taken []

@@ -11,15 +11,11 @@ use Rattle.walk.specs.Groups.{groups, pass_groups}
 use Rattle.walk.specs.Atoms.{moved, behind-white, passed, sign_read, then_sign-read}
 use Rattle.walk.specs.Machine.{closed, groups-read}
 use Rattle.walk.specs.declared.Step.{Step}
-use Rattle.walk.specs.declared.Step.TheVariants as Step
 use Rattle.walk.specs.declared.Entry.{Entry}
-use Rattle.walk.specs.declared.Entry.TheVariants as Entry
 use Rattle.launch_file.specs.Reading.{entered, left, behind_list, paired, list_of, PairRead, ToOwn, ToEnd, ending_to, ending_at, from_groups, fronted, read_as}
 use Rattle.launch_file.specs.Pairs.{next-closed}
 use Rattle.launch_file.specs.declared.Pair.{Pair}
-use Rattle.launch_file.specs.declared.Pair.TheVariants as Pair
 use Rattle.launch_file.specs.declared.Reading.{Reading}
-use Rattle.launch_file.specs.declared.Reading.TheVariants as Reading
 
 -- ---- a list of pairs
 

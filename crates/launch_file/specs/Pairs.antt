@@ -7,20 +7,15 @@ use Rattle.grammar.specs.File.{Group, Level, file, kernel, Here, comma, open_lis
 use Rattle.grammar.specs.Steps.{from, led}
 use Rattle.values.specs.Skipping.{reached, over, PassedOver}
 use Rattle.values.specs.declared.Skip.{Skip}
-use Rattle.values.specs.declared.Skip.TheVariants as Skip
 use Rattle.walk.specs.Walk.{part, sign_at, then_sign, atom_at, entry_at}
 use Rattle.walk.specs.Unfold.{StepOn, sign-on, atom-ahead, EntryOn, entry_at-on}
 use Rattle.walk.specs.Atoms.{moved, passed, sign_read, then_sign-read, atom-read}
 use Rattle.walk.specs.Machine.{listed, first_read, next-read}
 use Rattle.walk.specs.declared.Step.{Step}
-use Rattle.walk.specs.declared.Step.TheVariants as Step
 use Rattle.walk.specs.declared.Atom.{Atom}
-use Rattle.walk.specs.declared.Atom.TheVariants as Atom
 use Rattle.walk.specs.declared.Entry.{Entry}
-use Rattle.walk.specs.declared.Entry.TheVariants as Entry
 use Rattle.launch_file.specs.Reading.{entry_of, behind_list, paired, PairOn, list_of, IsAnyList, PairRead, own_to, own_pair}
 use Rattle.launch_file.specs.declared.Pair.{Pair}
-use Rattle.launch_file.specs.declared.Pair.TheVariants as Pair
 
 -- behind a later place, so behind an earlier one
 pair-sooner : (t : List ℕ) (at i : ℕ) (found : Bool) → at ≤ i → (r : Pair) → PairOn t i found r → PairOn t at found r

@@ -7,11 +7,8 @@ use Rattle.walk.specs.Groups.{groups}
 use Rattle.walk.specs.Unfold.{IsAhead}
 use Rattle.walk.specs.Atoms.{passed}
 use Rattle.walk.specs.declared.Step.{Step}
-use Rattle.walk.specs.declared.Step.TheVariants as Step
 use Rattle.launch_file.specs.declared.Pair.{Pair}
-use Rattle.launch_file.specs.declared.Pair.TheVariants as Pair
 use Rattle.launch_file.specs.declared.Reading.{Reading}
-use Rattle.launch_file.specs.declared.Reading.TheVariants as Reading
 
 -- ---- pairs
 

@@ -16,9 +16,7 @@ use Rattle.plain_book.specs.Numbers.{number_in, number-none, number_some}
 use Rattle.duplicates.specs.Duplicates.{covered}
 use Rattle.plan.specs.Plan.{number_of, set_with, set_of, listed}
 use Rattle.plan.specs.declared.Members.{Members}
-use Rattle.plan.specs.declared.Members.TheVariants as Members
 use Rattle.plan.specs.declared.Entered.{Entered}
-use Rattle.plan.specs.declared.Entered.TheVariants as Entered
 
 -- the nodes of a set and of these atoms, where every one is among the node atoms
 unfoldable pub members : List (List ℕ) → ℕ → List (List ℕ) → Members

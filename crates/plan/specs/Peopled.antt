@@ -8,13 +8,9 @@ use Rattle.walk.specs.Walk.{head_at, node_at, entry_at}
 use Rattle.walk.specs.Groups.{nodes_by, nodes, pass_by, pass_nodes, group_by, head_by, entry_by, groups_in, groups_from, groups}
 use Rattle.walk.specs.Unfold.{nodes-unfold, pass_nodes-unfold}
 use Rattle.walk.specs.declared.Step.{Step}
-use Rattle.walk.specs.declared.Step.TheVariants as Step
 use Rattle.walk.specs.declared.Atom.{Atom}
-use Rattle.walk.specs.declared.Atom.TheVariants as Atom
 use Rattle.walk.specs.declared.Node.{Node}
-use Rattle.walk.specs.declared.Node.TheVariants as Node
 use Rattle.walk.specs.declared.Entry.{Entry}
-use Rattle.walk.specs.declared.Entry.TheVariants as Entry
 use Rattle.duplicates.specs.Duplicates.{made, kept_of, kept}
 use Rattle.duplicates.specs.Names.{both}
 

@@ -2,7 +2,6 @@
 use Rattle.std.specs.Prelude.{◌≡◌, Bool, true, false, cond, List, [], ◌∷◌, ℕ, suc, ◌+◌, ◌-◌, ◌≤◌, ◌<◌, eqb, ltb, length, get_or}
 use Rattle.tokens.specs.Bytes.{white}
 use Rattle.tokens.specs.declared.Token.{Token}
-use Rattle.tokens.specs.declared.Token.TheVariants as Token
 use Rattle.grammar.specs.File.{depth_limit, Here, open_list, close_tuple, ascii, Bracket, list, tuple, closing, Phase, sign, next_pair, value, first, after, Outcome, refused}
 use Rattle.grammar.specs.Steps.{from}
 use Rattle.values.specs.declared.Skip.{Skip}

@@ -15,14 +15,12 @@ use Rattle.tokens.specs.Tokens.{behind, plain_to, plain_at, quoted_to, quoted_at
 use Rattle.tokens.specs.Within.{run_none, run-stops}
 use Rattle.tokens.specs.declared.Class.TheVariants.{White, Name, Digit, Quoted}
 use Rattle.tokens.specs.declared.Token.{Token}
-use Rattle.tokens.specs.declared.Token.TheVariants as Token
 use Rattle.grammar.specs.File.{Here, Sign, ascii, Use, Phase, sign, atom, plain, quoted, Move, goes, dead, spaced, reads, named, step, Outcome, refused, ends, onward, rest}
 use Rattle.grammar.specs.Steps.{from, from-dead, from_end, from-run, led, from-plain, from-quoted, quote-ends}
 use Rattle.walk.specs.Walk.{part, dark, sign_from, sign_at, then_sign, atom_of, atom_at}
 use Rattle.walk.specs.declared.Step.{Step}
 use Rattle.walk.specs.declared.Step.TheVariants.{Past, Stop}
 use Rattle.walk.specs.declared.Atom.{Atom}
-use Rattle.walk.specs.declared.Atom.TheVariants as Atom
 
 -- ---- the first byte behind white space decides
 

@@ -5,11 +5,8 @@ use Rattle.walk.specs.Walk.{part, head_at, node_at, entry_at}
 use Rattle.walk.specs.declared.Step.{Step}
 use Rattle.walk.specs.declared.Step.TheVariants.{Past, Stop}
 use Rattle.walk.specs.declared.Atom.{Atom}
-use Rattle.walk.specs.declared.Atom.TheVariants as Atom
 use Rattle.walk.specs.declared.Node.{Node}
-use Rattle.walk.specs.declared.Node.TheVariants as Node
 use Rattle.walk.specs.declared.Entry.{Entry}
-use Rattle.walk.specs.declared.Entry.TheVariants as Entry
 
 -- ---- the nodes of a group: their names, and the place behind the group
 

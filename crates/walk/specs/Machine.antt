@@ -16,11 +16,8 @@ use Rattle.walk.specs.Atoms.{moved, dark-again, behind-white, passed, sign_read,
 use Rattle.walk.specs.declared.Step.{Step}
 use Rattle.walk.specs.declared.Step.TheVariants.{Past, Stop}
 use Rattle.walk.specs.declared.Atom.{Atom}
-use Rattle.walk.specs.declared.Atom.TheVariants as Atom
 use Rattle.walk.specs.declared.Node.{Node}
-use Rattle.walk.specs.declared.Node.TheVariants as Node
 use Rattle.walk.specs.declared.Entry.{Entry}
-use Rattle.walk.specs.declared.Entry.TheVariants as Entry
 
 -- a byte is not two signs
 not-both : (b m n : ℕ) → eqb b m ≡ true → eqb b n ≡ true → m ≡ n

@@ -9,18 +9,14 @@ use Rattle.tokens.specs.Tokens.{behind, plain_to, plain_at, quoted_to, quoted_at
 use Rattle.tokens.specs.Within.{run-within}
 use Rattle.tokens.specs.declared.Class.TheVariants.{Name, Digit, Quoted}
 use Rattle.tokens.specs.declared.Token.{Token}
-use Rattle.tokens.specs.declared.Token.TheVariants as Token
 use Rattle.grammar.specs.File.{Group, ascii, comma, open_list, close_list, open_tuple, close_tuple}
 use Rattle.walk.specs.Walk.{part, dark, sign_from, sign_at, then_sign, atom_of, atom_at, letters_at, normal_from, normal_at, then_normal, named_to, headed, head_at, last_to, node_from, noded, node_at, opened_to, bracket_at, entry_from, entry_at}
 use Rattle.walk.specs.Groups.{nodes_by, nodes_in, nodes, pass_by, pass_nodes_in, pass_nodes, group_by, head_by, entry_by, groups_in, groups_from, pass_head, pass_group, pass_entry, pass_groups_in, pass_groups_from, pass_groups}
 use Rattle.walk.specs.declared.Step.{Step}
 use Rattle.walk.specs.declared.Step.TheVariants.{Past, Stop}
 use Rattle.walk.specs.declared.Atom.{Atom}
-use Rattle.walk.specs.declared.Atom.TheVariants as Atom
 use Rattle.walk.specs.declared.Node.{Node}
-use Rattle.walk.specs.declared.Node.TheVariants as Node
 use Rattle.walk.specs.declared.Entry.{Entry}
-use Rattle.walk.specs.declared.Entry.TheVariants as Entry
 
 -- ---- what is read lies ahead, and within the text
 

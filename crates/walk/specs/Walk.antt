@@ -5,16 +5,12 @@ use Rattle.tokens.specs.Reserved.{bytes}
 use Rattle.tokens.specs.Tokens.{behind, token_at}
 use Rattle.tokens.specs.declared.Class.TheVariants.{White}
 use Rattle.tokens.specs.declared.Token.{Token}
-use Rattle.tokens.specs.declared.Token.TheVariants as Token
 use Rattle.grammar.specs.File.{ascii, comma, open_list, close_list, open_tuple, close_tuple}
 use Rattle.walk.specs.declared.Step.{Step}
 use Rattle.walk.specs.declared.Step.TheVariants.{Past, Stop}
 use Rattle.walk.specs.declared.Atom.{Atom}
-use Rattle.walk.specs.declared.Atom.TheVariants as Atom
 use Rattle.walk.specs.declared.Node.{Node}
-use Rattle.walk.specs.declared.Node.TheVariants as Node
 use Rattle.walk.specs.declared.Entry.{Entry}
-use Rattle.walk.specs.declared.Entry.TheVariants as Entry
 
 -- the bytes of a text from s up to e
 abbrev pub part : List ℕ → ℕ → ℕ → List ℕ

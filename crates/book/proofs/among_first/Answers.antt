@@ -1,6 +1,5 @@
 -- `book::among_first` meets its contract: the atom is none of the lines passed. Assumes nothing.
 use mathlib.Core.Path.{◌≡◌, refl, sym, ap, ◌∙◌}
-use mathlib.Core.Bool.{false}
 use native.Mathlib.Omega.{arith}
 use Rattle.tokens.specs.Reserved.{same, among}
 use Rattle.book.specs.Book.{lines}

@@ -6,7 +6,6 @@ use Prim.Native.Nat.{ℕ}
 use native.Mathlib.Omega.{arith}
 use Rattle.tokens.specs.Reserved.{same}
 use Rattle.grammar.specs.File.{Group}
-use Rattle.walk.specs.Groups.{nodes}
 use Rattle.duplicates.specs.Duplicates.{equal_nodes, agreed}
 use Rattle.duplicates.specs.Next.{group-found}
 use Rattle.duplicates.proofs.agreed.Goals as goal

@@ -14,7 +14,7 @@ loop-e-init c = taken_none _ _ _ _ _ _ c.requires.numbers_len
 pub returns-in-Closed : goal.returns-in-Closed
 returns-in-Closed c =
     let l = c.loop-e in
-    let P = taken_all _ _ _ _ _ _ _ _ _ l.invariant _ (sym c.entry_at.ensures ∙ c.in-Closed.is) in
+    let P = taken_all _ _ _ _ _ _ _ _ _ l.invariant _ (sym c.in-Closed.ensures) in
     λ k e h.
     let x : l.k ≡ k = cc in
     let y : c.in-Closed.e ≡ e = cc in
@@ -27,13 +27,13 @@ pub returns-in-Stop-head_at : goal.returns-in-Stop-head_at
 returns-in-Stop-head_at c = λ k e h. absurd (let z : ◌≡◌ {A = ℕ} 0 1 = cc in omega arith)
 
 pub slice_bounds-group_of-count : goal.slice_bounds-group_of-count
-slice_bounds-group_of-count c = (head-ahead _ _ _ _ _ ((sym c.head_at.ensures ∙ c.in-Is.is))).1.0
+slice_bounds-group_of-count c = (head-ahead _ _ _ _ _ ((sym c.in-Is.ensures))).1.0
 
 pub slice_bounds-group_of-start : goal.slice_bounds-group_of-start
-slice_bounds-group_of-start c = (head-ahead _ _ _ _ _ ((sym c.head_at.ensures ∙ c.in-Is.is))).1.0
+slice_bounds-group_of-start c = (head-ahead _ _ _ _ _ ((sym c.in-Is.ensures))).1.0
 
 pub slice_bounds-group_of-end : goal.slice_bounds-group_of-end
-slice_bounds-group_of-end c = (head-ahead _ _ _ _ _ ((sym c.head_at.ensures ∙ c.in-Is.is))).1.1
+slice_bounds-group_of-end c = (head-ahead _ _ _ _ _ ((sym c.in-Is.ensures))).1.1
 
 pub returns-then-group_count-i : goal.returns-then-group_count-i
 returns-then-group_count-i c = λ k e h. absurd (let z : ◌≡◌ {A = ℕ} 0 1 = cc in omega arith)
@@ -61,8 +61,8 @@ returns-in-Unknown c = λ k e h. absurd (let z : ◌≡◌ {A = ℕ} 0 1 = cc in
 
 pub loop-e-smaller : goal.loop-e-smaller
 loop-e-smaller c =
-    let i = group-ahead _ _ _ _ ((sym c.entry_at.ensures ∙ c.in-Group.is)) in
-    let m = head-ahead _ _ _ _ _ ((sym c.head_at.ensures ∙ c.in-Is.is)) in
+    let i = group-ahead _ _ _ _ ((sym c.in-Group.ensures)) in
+    let m = head-ahead _ _ _ _ _ ((sym c.in-Is.ensures)) in
     let n = nodes-ahead _ _ _ (c.nodes_at.ensures _ _ c.in-Are.is).past in
     omega (arith, i.0, m.0.0, n.0, n.1)
 
@@ -70,4 +70,4 @@ pub loop-e-preserved : goal.loop-e-preserved
 loop-e-preserved c =
     let new = sym c.seen.ensures ∙ c.if-seen.false in
     let nodes = c.nodes_at.ensures _ _ c.in-Are.is in
-    taken_more _ _ _ _ _ _ _ _ _ c.loop-e.invariant _ _ _ _ ((sym c.entry_at.ensures ∙ c.in-Group.is)) ((sym c.head_at.ensures ∙ c.in-Is.is)) _ c.group_of-i.ensures _ c.group_count.ensures c.if-group_count-i.false c.if-k-ge-GROUP_LIMIT.false new _ _ nodes
+    taken_more _ _ _ _ _ _ _ _ _ c.loop-e.invariant _ _ _ _ ((sym c.in-Group.ensures)) ((sym c.in-Is.ensures)) _ c.group_of-i.ensures _ c.group_count.ensures c.if-group_count-i.false c.if-k-ge-GROUP_LIMIT.false new _ _ nodes

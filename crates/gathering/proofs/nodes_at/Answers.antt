@@ -14,13 +14,13 @@ pub returns-in-Stop : goal.returns-in-Stop
 returns-in-Stop c = λ s m h. absurd (let z : ◌≡◌ {A = ℕ} 0 1 = cc in omega arith)
 
 pub slice_bounds-node_of-count : goal.slice_bounds-node_of-count
-slice_bounds-node_of-count c = (atom-ahead _ _ _ _ _ ((sym c.atom_at.ensures ∙ c.in-Is.is))).1.0
+slice_bounds-node_of-count c = (atom-ahead _ _ _ _ _ ((sym c.in-Is.ensures))).1.0
 
 pub slice_bounds-node_of-start : goal.slice_bounds-node_of-start
-slice_bounds-node_of-start c = (atom-ahead _ _ _ _ _ ((sym c.atom_at.ensures ∙ c.in-Is.is))).1.0
+slice_bounds-node_of-start c = (atom-ahead _ _ _ _ _ ((sym c.in-Is.ensures))).1.0
 
 pub slice_bounds-node_of-end : goal.slice_bounds-node_of-end
-slice_bounds-node_of-end c = (atom-ahead _ _ _ _ _ ((sym c.atom_at.ensures ∙ c.in-Is.is))).1.1
+slice_bounds-node_of-end c = (atom-ahead _ _ _ _ _ ((sym c.in-Is.ensures))).1.1
 
 pub returns-then-n-i : goal.returns-then-n-i
 returns-then-n-i c = λ s m h. absurd (let z : ◌≡◌ {A = ℕ} 0 1 = cc in omega arith)
@@ -30,19 +30,19 @@ returns-then-text-p c = λ s m h. absurd (let z : ◌≡◌ {A = ℕ} 0 1 = cc i
 
 pub loop-s-smaller : goal.loop-s-smaller
 loop-s-smaller c =
-    let n = atom-ahead _ _ _ _ _ ((sym c.atom_at.ensures ∙ c.in-Is.is)) in
+    let n = atom-ahead _ _ _ _ _ ((sym c.in-Is.ensures)) in
     omega (arith, n.0.0, c.past_white-p.ensures, c.if-text-p.false)
 
 pub loop-s-preserved : goal.loop-s-preserved
 loop-s-preserved c =
     λ r m h.
     c.loop-s.invariant r m
-    (noded-more _ _ _ c.requires.noted.fits _ _ _ _ _ ((sym c.atom_at.ensures ∙ c.in-Is.is)) _ c.node_of-i.ensures c.if-n-i.false _ c.with-set.ensures _ c.past_white-p.ensures c.if-text-p.false c.if-text-p-eq44.true r m h)
+    (noded-more _ _ _ c.requires.noted.fits _ _ _ _ _ ((sym c.in-Is.ensures)) _ c.node_of-i.ensures c.if-n-i.false _ c.with-set.ensures _ c.past_white-p.ensures c.if-text-p.false c.if-text-p-eq44.true r m h)
 
 pub returns-in-Past : goal.returns-in-Past
 returns-in-Past c =
-    let ends = rw c.sign_at.ensures at (sym c.then_sign.ensures ∙ c.in-Past.is) in
-    let last = noded-last _ _ _ c.requires.noted.fits _ _ _ _ _ ((sym c.atom_at.ensures ∙ c.in-Is.is)) _ c.node_of-i.ensures c.if-n-i.false _ c.with-set.ensures _ c.past_white-p.ensures c.if-text-p.false c.if-text-p-eq44.false _ ends in
+    let ends = rw c.sign_at.ensures at (sym c.in-Past.ensures) in
+    let last = noded-last _ _ _ c.requires.noted.fits _ _ _ _ _ ((sym c.in-Is.ensures)) _ c.node_of-i.ensures c.if-n-i.false _ c.with-set.ensures _ c.past_white-p.ensures c.if-text-p.false c.if-text-p-eq44.false _ ends in
     λ r m h.
     let x : c.with-set.result ≡ r = cc in
     let y : c.in-Past.next ≡ m = cc in

@@ -1,5 +1,5 @@
 -- `launch_file::front` meets its contract: the own entry of the file's list leads to the kernel entry, and that list's to the groups. Assumes nothing.
-use mathlib.Core.Path.{sym, ◌∙◌}
+use mathlib.Core.Path.{sym}
 use Rattle.launch_file.specs.Lists.{front_cut, front-stops, front_read}
 use Rattle.launch_file.proofs.front.Goals as goal
 

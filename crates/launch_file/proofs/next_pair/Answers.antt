@@ -1,8 +1,7 @@
 -- `launch_file::next_pair` meets its contract: what stands in the list decides. Assumes nothing.
 use borrow.Author.Rules.{part_to_end}
-use mathlib.Core.Path.{sym, ◌∙◌}
+use mathlib.Core.Path.{sym}
 use native.Mathlib.Omega.{arith}
-use Rattle.walk.specs.Walk.{entry_at}
 use Rattle.launch_file.specs.Pairs.{next-stops, next-pairs, next-closed, next-missing, closed-within}
 use Rattle.launch_file.proofs.next_pair.Goals as goal
 

@@ -1,5 +1,5 @@
 -- `launch_file::other_pair` meets its contract: each step is taken where the one before led. Assumes nothing.
-use mathlib.Core.Path.{sym, ◌∙◌}
+use mathlib.Core.Path.{sym}
 use Rattle.launch_file.specs.Pairs.{other_cut, other-read, other-ends}
 use Rattle.launch_file.proofs.other_pair.Goals as goal
 

@@ -4,7 +4,6 @@ use Rattle.grammar.specs.File.{close_tuple, ascii}
 use Rattle.walk.specs.Walk.{then_sign}
 use Rattle.walk.specs.Groups.{pass_groups}
 use Rattle.walk.specs.declared.Step.{Step}
-use Rattle.walk.specs.declared.Step.TheVariants as Step
 use Rattle.launch_file.specs.Lists.{rest-cut, rest-open, rest-stops, rest_read, refused-place, whole-place}
 use Rattle.launch_file.proofs.rest.Goals as goal
 

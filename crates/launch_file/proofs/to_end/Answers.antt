@@ -1,8 +1,5 @@
 -- `launch_file::to_end` meets its contract: each pair is one turn, and the own pair does not stand there again. Assumes nothing.
-use mathlib.Core.Bool.{true}
 use native.Mathlib.Omega.{arith}
-use Rattle.grammar.specs.File.{next_pair}
-use Rattle.launch_file.specs.Reading.{list_of, PairRead}
 use Rattle.launch_file.specs.Lists.{reached-here, reached-other, end-stops, end-once, end-left}
 use Rattle.launch_file.proofs.to_end.Goals as goal
 

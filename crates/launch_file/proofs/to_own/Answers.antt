@@ -1,8 +1,5 @@
 -- `launch_file::to_own` meets its contract: each pair is one turn, and the list does not end in front of its own pair. Assumes nothing.
-use mathlib.Core.Bool.{false, cond}
 use native.Mathlib.Omega.{arith}
-use Rattle.grammar.specs.File.{first_pair, next_pair}
-use Rattle.launch_file.specs.Reading.{list_of, PairRead}
 use Rattle.launch_file.specs.Lists.{reached-here, reached-other, own-stops, own_open, own-entered}
 use Rattle.launch_file.proofs.to_own.Goals as goal
 

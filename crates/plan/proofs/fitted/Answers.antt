@@ -1,14 +1,13 @@
 -- `plan::fitted` meets its contract: between two groups, what is kept of those before is counted, known and written. Assumes nothing.
-use mathlib.Core.Path.{◌≡◌, sym, ap, ◌∙◌}
+use mathlib.Core.Path.{◌≡◌, sym, ◌∙◌}
 use Prim.Native.Nat.{ℕ}
 use native.Mathlib.Omega.{arith}
-use lib.ListN.{length}
 use Rattle.duplicates.specs.Next.{group-found}
 use Rattle.plan.specs.Looked.{woven-room, entered-told}
 use Rattle.plan.specs.Turns.{taken_none, taken-left, taken-unknown, taken_made, taken-too-many, taken-fits, taken-words}
 use Rattle.plan.specs.Creatable.{entered-high}
 use Rattle.plan.proofs.fitted.Goals as goal
-use Rattle.plan.proofs.fitted.Goals.{then-made, else-made}
+use Rattle.plan.proofs.fitted.Goals.{then-made+in-Group-enter, else-made}
 
 pub loop-s-init : goal.loop-s-init
 loop-s-init c =
@@ -57,29 +56,27 @@ overflow_add-count c = let n = group-found _ _ _ _ (sym c.in-Group.is ∙ c.next
 pub loop-s-smaller : goal.loop-s-smaller
 loop-s-smaller c = let n = group-found _ _ _ _ (sym c.in-Group.is ∙ c.next_group.ensures) in omega (arith, n.1.0, n.1.1)
 
--- CONVERT: w.15 is a field w.VARIABLE-is now
--- CONVERT: w.1 is a field w.VARIABLE-is now
--- CONVERT: w.2 is a field w.VARIABLE-is now
--- CONVERT: w.3 is a field w.VARIABLE-is now
 pub loop-s-preserved : goal.loop-s-preserved
 loop-s-preserved c =
     let n = group-found _ _ _ _ (sym c.in-Group.is ∙ c.next_group.ensures) in
     let l = c.loop-s in
     let T = c.loop-s.invariant.4 in
+    let ns = c.if-made.auto.numbers ∙ l.invariant.0 in
+    let ss = c.if-made.auto.sets ∙ l.invariant.1 in
     elim c.if-made.branch [
-      | then-made w ↦ let u = entered-told _ _ _ _ (sym w.number-1.given.1 ∙ w.enter.ensures) in (
-        ap length w.in-Unknown ∙ w.numbers-1.given ∙ l.invariant.0,
-        ap length w.enum_told-1 ∙ w.sets-1.given ∙ l.invariant.1,
+      | then-made+in-Group-enter w ↦ let u = entered-told _ _ _ _ (sym w.in-Group-enter.is ∙ w.enter.ensures) in (
+        ns,
+        ss,
         omega (arith, n.1.0, n.1.1),
-        omega (arith, w.15),
-        rw (w.in-Unknown, w.enum_told-1, w.15) (taken_made _ _ _ _ _ _ _ T _ _ n.0 _ c.made.ensures w.if-made.true u.0 _ _ u.1 u.2 _ w.put.ensures),
+        omega (arith, w.k-is),
+        rw (w.numbers-is, w.sets-is, w.k-is) (taken_made _ _ _ _ _ _ _ T _ _ n.0 _ c.made.ensures w.if-made.true u.0 _ _ u.1 u.2 _ w.put.ensures),
       )
       | else-made w ↦ (
-        ap length w.1 ∙ l.invariant.0,
-        ap length w.2 ∙ l.invariant.1,
+        ns,
+        ss,
         omega (arith, n.1.0, n.1.1),
-        omega (arith, w.3),
-        rw (w.1, w.2, w.3) (taken-left _ _ _ _ _ _ _ T _ _ n.0 _ c.made.ensures w.if-made.false),
+        omega (arith, w.k-is),
+        rw (w.numbers-is, w.sets-is, w.k-is) (taken-left _ _ _ _ _ _ _ T _ _ n.0 _ c.made.ensures w.if-made.false),
       )
     ]
 

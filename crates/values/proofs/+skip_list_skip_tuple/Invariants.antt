@@ -22,4 +22,3 @@ invariant-skip_tuple-loop-at l = Between tuple l.text l.at l.depth l.j l.opened
 
 abbrev pub decreases-skip_tuple-loop-at : goal.decreases-skip_tuple-loop-at
 decreases-skip_tuple-loop-at l = length l.text - l.j
-

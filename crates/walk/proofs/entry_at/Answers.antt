@@ -28,14 +28,16 @@ pub returns-in-Past : goal.returns-in-Past
 unfolding entry_at entry_from
 returns-in-Past c =
     let the : c.if-begun.bracket ≡ bracket_at c.args.text.now c.past_white-i.result c.args.begun = elim c.if-begun.branch [
-      then-begun w ↦ w.bracket-is ∙ (w.then_sign-bracket.ensures ∙ (ap (λ s. then_sign c.args.text.now s 123) w.sign_at.ensures ∙ sym (bracket-begun _ _ _ w.if-begun.true)))
-    | else-begun w ↦ w.bracket-is ∙ (w.sign_at-bracket.ensures ∙ sym (bracket-first _ _ _ w.if-begun.false)) ] in
+      | then-begun w ↦ w.bracket-is ∙ (w.then_sign-bracket.ensures ∙ (ap (λ s. then_sign c.args.text.now s 123) w.sign_at.ensures ∙ sym (bracket-begun _ _ _ w.if-begun.true)))
+      | else-begun w ↦ w.bracket-is ∙ (w.sign_at-bracket.ensures ∙ sym (bracket-first _ _ _ w.if-begun.false))
+    ] in
     rw (← c.past_white-i.ensures, lt-ltb _ _ c.if-text-i.false, ne_eqb _ _ c.if-text-i-eq93.false, ← the, c.in-Past.is)
 
 pub returns-in-Stop : goal.returns-in-Stop
 unfolding entry_at entry_from
 returns-in-Stop c =
     let the : c.if-begun.bracket ≡ bracket_at c.args.text.now c.past_white-i.result c.args.begun = elim c.if-begun.branch [
-      then-begun w ↦ w.bracket-is ∙ (w.then_sign-bracket.ensures ∙ (ap (λ s. then_sign c.args.text.now s 123) w.sign_at.ensures ∙ sym (bracket-begun _ _ _ w.if-begun.true)))
-    | else-begun w ↦ w.bracket-is ∙ (w.sign_at-bracket.ensures ∙ sym (bracket-first _ _ _ w.if-begun.false)) ] in
+      | then-begun w ↦ w.bracket-is ∙ (w.then_sign-bracket.ensures ∙ (ap (λ s. then_sign c.args.text.now s 123) w.sign_at.ensures ∙ sym (bracket-begun _ _ _ w.if-begun.true)))
+      | else-begun w ↦ w.bracket-is ∙ (w.sign_at-bracket.ensures ∙ sym (bracket-first _ _ _ w.if-begun.false))
+    ] in
     rw (← c.past_white-i.ensures, lt-ltb _ _ c.if-text-i.false, ne_eqb _ _ c.if-text-i-eq93.false, ← the, c.in-Stop.is)

@@ -1,10 +1,10 @@
 -- `walk::pass_groups` meets its contract: each group is one step of the walk. Assumes nothing.
-use mathlib.Core.Path.{◌≡◌, refl, sym, ap, ◌∙◌}
+use mathlib.Core.Path.{refl, sym, ap, ◌∙◌}
 use mathlib.Core.Bool.{true}
 use mathlib.Core.List.{List}
 use Prim.Native.Nat.{ℕ}
 use native.Mathlib.Omega.{arith}
-use Rattle.walk.specs.Groups.{pass_head, pass_group, pass_entry, pass_groups_from, pass_groups}
+use Rattle.walk.specs.Groups.{pass_head, pass_group, pass_entry, pass_groups_from}
 use Rattle.walk.specs.Unfold.{group-ahead, head-ahead, nodes-ahead, pass_groups-unfold}
 use Rattle.walk.specs.declared.Step.{Step}
 use Rattle.walk.proofs.pass_groups.Goals as goal

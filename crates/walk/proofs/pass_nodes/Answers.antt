@@ -1,7 +1,6 @@
 -- `walk::pass_nodes` meets its contract: each node is one step of the walk. Assumes nothing.
-use mathlib.Core.Path.{◌≡◌, refl, sym, ap, ◌∙◌}
+use mathlib.Core.Path.{refl, sym, ap, ◌∙◌}
 use native.Mathlib.Omega.{arith}
-use Rattle.walk.specs.Walk.{node_at}
 use Rattle.walk.specs.Groups.{pass_by, pass_nodes}
 use Rattle.walk.specs.Unfold.{node-ahead, pass_nodes-unfold}
 use Rattle.walk.proofs.pass_nodes.Goals as goal

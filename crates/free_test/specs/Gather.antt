@@ -6,8 +6,8 @@ use Rattle.std.specs.Int.Bits.{bit_or, bit_xor, or_add_and, xor_add_and, xor_sel
 use Rattle.std.proofs.lemmas.Nat.{and_le_l, and_le_r}
 use Rattle.nodes.specs.Sets.{node_limit, has, empty, union, lowest, rest}
 use Rattle.nodes.specs.Bools.{by_eq, test-ext}
-use Rattle.nodes.specs.SetLaws.{has-none, has-without_node}
-use Rattle.nodes.specs.LowestNode.{lowest-lt, lowest-has}
+use Rattle.nodes.proofs.SetLaws.{has-none, has-without_node}
+use Rattle.nodes.proofs.LowestNode.{lowest-lt, lowest-has}
 use Rattle.free_test.specs.WireTests.{all_below, all_of}
 use Rattle.free_test.specs.Below.{below_step, of_iff}
 

@@ -7,8 +7,8 @@ use Rattle.std.proofs.Math.Logic.{⊎_elim}
 use Rattle.std.proofs.Math.Bool.{and-true, and-false, or-true, or-false, and-eq-true_iff}
 use Rattle.nodes.specs.Sets.{node_limit, has, single, union, inter, lowest, without_node, word_at}
 use Rattle.nodes.specs.Bools.{by_lt, by_eq, by_test, test-ext}
-use Rattle.nodes.specs.SetLaws.{has-none, has-below, below-pow, has-ext, has-union, has-inter, has-single, has-without_node, subset-has, has-subset}
-use Rattle.nodes.specs.LowestNode.{lowest-lt, lowest-has, lowest-le}
+use Rattle.nodes.proofs.SetLaws.{has-none, has-below, below-pow, has-ext, has-union, has-inter, has-single, has-without_node, subset-has, has-subset}
+use Rattle.nodes.proofs.LowestNode.{lowest-lt, lowest-has, lowest-le}
 use Rattle.semantics.specs.Soundness.{In}
 use Rattle.semantics.specs.Test.{freely}
 use Rattle.free_test.specs.WireTests.{all_of, one_a_node, both_ways, links_sound, others_met, members_met, free_sound}

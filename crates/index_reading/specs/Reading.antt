@@ -18,7 +18,7 @@ use Rattle.semantics.specs.TestLaws.{same-iff}
 use Rattle.semantics.specs.Soundness.{size_of}
 use Rattle.semantics.specs.WordsOfState.{size_is}
 use Rattle.semantics.specs.FirstReason.{Test, first}
-use Rattle.semantics.specs.Agree.{test-regular, test-laid}
+use Rattle.semantics.proofs.Agree.{test-regular, test-laid}
 use Rattle.semantics.specs.Call.{refused}
 use Rattle.indexes.specs.Index.{Row, key_of, pid_of, walk, sorted, flat, keep, named, index_of_table, names_of}
 use Rattle.indexes.specs.Ascending.{rank}

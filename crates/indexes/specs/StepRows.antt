@@ -21,7 +21,7 @@ use Rattle.semantics.specs.Steps.{Outcome, Result, target, as_member, full, name
 use Rattle.semantics.specs.Regular.{Regular}
 use Rattle.semantics.specs.Fits.{Fits}
 use Rattle.semantics.specs.NamesKept.{fresh-remove}
-use Rattle.semantics.specs.StepsKeep.{keeps}
+use Rattle.semantics.proofs.StepsKeep.{keeps}
 use Rattle.indexes.specs.Index.{Row, key_of, walk, put_in, sorted, keep}
 use Rattle.indexes.specs.Sorting.{sorted-keep}
 use Rattle.indexes.specs.WalkLaws.{length-walk-fits, walk-distinct, walk-members, walk-remove, walk-hosted, walk-drop, walk-insert, walk_more, walk-add}

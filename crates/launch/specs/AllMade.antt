@@ -19,7 +19,7 @@ use Rattle.semantics.specs.Truth.{neither}
 use Rattle.semantics.specs.FirstReason.{first}
 use Rattle.semantics.specs.Soundness.{Sound}
 use Rattle.semantics.specs.Call.{opening}
-use Rattle.semantics.specs.Calls.{calls-keep-sound, opening-gives-sound}
+use Rattle.semantics.proofs.Calls.{calls-keep-sound, opening-gives-sound}
 use Rattle.semantics.specs.State as State
 use Rattle.semantics.specs.Table.{state_of}
 use Rattle.creating.specs.Creations.{makeable, EachMade, AllThere}

@@ -6,7 +6,7 @@ use Rattle.std.proofs.Math.Bool.{false, not, false≢true, and-false, and-eq-tru
 use Rattle.std.proofs.Math.Option.{Option, none, some}
 use native.Mathlib.Omega.{arith}
 use Rattle.nodes.specs.Sets.{node_limit, has}
-use Rattle.nodes.specs.SetLaws.{has-none, has-ext}
+use Rattle.nodes.proofs.SetLaws.{has-none, has-ext}
 use Rattle.entries.specs.Entries.{Entry, half_word, lookup, holds_pid}
 use Rattle.entries.specs.NamespaceSound as Namespace
 use Rattle.entries.specs.NamespaceSound.{Ascending, Distinct, Hosted}
@@ -18,7 +18,7 @@ use Rattle.semantics.specs.Soundness.{Sound}
 use Rattle.semantics.specs.Regular.{Every, Rising, RegularGroup, Met, Regular, loose}
 use Rattle.semantics.specs.Truth.{or_cases, unless}
 use Rattle.semantics.specs.FreeGroupsOfNodes.{has-free_nodes}
-use Rattle.semantics.specs.Agree.{regular-test, sound-iff}
+use Rattle.semantics.proofs.Agree.{regular-test, sound-iff}
 use Rattle.published.specs.Published.{Set, of_some, SGroup, Namespace, Node, Published, those, IsSGroupNode}
 use Rattle.published.specs.SeenState.{seen, names_seen, published, set_word, chained, seen_table, layout-seen}
 use Rattle.published.specs.WellFormed.{connected, free, FairNamespace, WellFormed}

@@ -9,7 +9,7 @@ use Rattle.semantics.specs.Sizes.{group_names}
 use Rattle.commands.specs.declared.Command.{Command}
 use Rattle.semantics.specs.Ranges.{held}
 use Rattle.semantics.specs.Fits.{Fits}
-use Rattle.semantics.specs.StepsKeep.{keeps}
+use Rattle.semantics.proofs.StepsKeep.{keeps}
 use Rattle.published.specs.Published.{of_some, SGroup, Node, Published, those, IsSGroupNode, IsFreeNormalNode, IsFreeHiddenNode}
 use Rattle.published.specs.Refusals.{Answered, answer}
 use Rattle.published.specs.WellFormed.{free, WellFormed}

@@ -10,9 +10,9 @@ use Prim.Native.Nat.{ℕ, zero, suc, ◌+◌, ◌^◌, ◌≤◌, ◌<◌}
 use native.Mathlib.Omega.{arith}
 use Rattle.nodes.specs.Sets.{has, single}
 use Rattle.nodes.specs.Bools.{by_lt, by_eq, and-follows}
-use Rattle.nodes.specs.SetLaws.{has-union, has-single, has-none, has-ext, has-below, union-above}
+use Rattle.nodes.proofs.SetLaws.{has-union, has-single, has-none, has-ext, has-below, union-above}
 use Rattle.nodes.specs.Digits.{bit-lt}
-use Rattle.nodes.specs.Counts.{tally, count_tally}
+use Rattle.nodes.proofs.Counts.{tally, count_tally}
 use Rattle.nodes.specs.Sets as Nodes
 use Rattle.published.specs.Published.{Set}
 use Rattle.published.specs.Seen.{set_word, how_many, chained}

@@ -10,7 +10,7 @@ use Rattle.std.proofs.Math.Dec.{eqb}
 use Rattle.std.proofs.Math.Pow.{pow-lt}
 use Rattle.nodes.specs.Sets.{node_limit, has, single, union, empty}
 use Rattle.nodes.specs.Bools.{and-follows}
-use Rattle.nodes.specs.SetLaws.{has-union, has-single, has-none, has-ext, union-lt}
+use Rattle.nodes.proofs.SetLaws.{has-union, has-single, has-none, has-ext, union-lt}
 use Rattle.semantics.specs.Sizes.{group_names}
 use Rattle.semantics.specs.State.{Group, State, find, all_members, free_of}
 use Rattle.semantics.specs.Steps.{link, merge, connect}

@@ -7,14 +7,14 @@ use Rattle.std.proofs.Math.Bool.{and-true, and_comm}
 use Rattle.std.proofs.Math.Seq.{ext_get_or}
 use Rattle.nodes.specs.Sets.{has}
 use Rattle.nodes.specs.Bools.{by_lt, and-follows}
-use Rattle.nodes.specs.SetLaws.{has-ext, has-below}
+use Rattle.nodes.proofs.SetLaws.{has-ext, has-below}
 use Rattle.semantics.specs.Sizes.{names_per_group, group_names}
 use Rattle.semantics.specs.State.{State, find}
 use Rattle.semantics.specs.Table.{state_of}
 use Rattle.semantics.specs.Soundness.{Sound}
 use Rattle.semantics.specs.Regular.{Regular}
-use Rattle.semantics.specs.KeyPlaces.{same-found}
-use Rattle.semantics.specs.Agree.{test-regular, same-state-same-table, sound-iff}
+use Rattle.semantics.proofs.KeyPlaces.{same-found}
+use Rattle.semantics.proofs.Agree.{test-regular, same-state-same-table, sound-iff}
 use Rattle.published.specs.Published.{of_some, SGroup, Node, Published, those}
 use Rattle.published.specs.SeenState.{seen, published, chained, seen_table, mapped, seen-sound}
 use Rattle.published.specs.GroupsSeen.{groups_seen, node_seen, those-seen, gathered}

@@ -16,9 +16,9 @@ use Rattle.semantics.specs.FirstReason.{first}
 use Rattle.semantics.specs.Call.{Call, call}
 use Rattle.semantics.specs.Regular.{Regular}
 use Rattle.semantics.specs.Fits.{Fits}
-use Rattle.semantics.specs.StepsKeep.{keeps}
-use Rattle.semantics.specs.Agree.{test-regular, sound-iff}
-use Rattle.semantics.specs.Calls.{call-sound, calls-keep-sound}
+use Rattle.semantics.proofs.StepsKeep.{keeps}
+use Rattle.semantics.proofs.Agree.{test-regular, sound-iff}
+use Rattle.semantics.proofs.Calls.{call-sound, calls-keep-sound}
 use Rattle.answers.specs.declared.Answer.{Answer}
 use Rattle.answers.specs.declared.Value.{Value}
 use Rattle.answers.specs.declared.Reason.{Reason}

@@ -9,7 +9,7 @@ use Rattle.std.proofs.Math.Option.{Option, none, some, some-injective}
 use borrow.Author.Tests.{eqb-true, eq-eqb, ne_eqb, lt-ltb}
 use Rattle.nodes.specs.Sets.{has}
 use Rattle.nodes.specs.Bools.{by_eq, and-follows}
-use Rattle.nodes.specs.SetLaws.{has-below}
+use Rattle.nodes.proofs.SetLaws.{has-below}
 use Rattle.entries.specs.Entries.{Entry, half_word, lookup}
 use Rattle.entries.specs.NamespaceSound as Namespace
 use Rattle.entries.specs.NamespaceSound.{Ascending, Distinct}
@@ -23,7 +23,7 @@ use Rattle.semantics.specs.Members.{in-word}
 use Rattle.semantics.specs.Groups.{of-found, found_name}
 use Rattle.semantics.specs.NamesKept.{host-found}
 use Rattle.semantics.specs.Changed.{regular-found, small-name}
-use Rattle.semantics.specs.Agree.{test-regular, sound-iff}
+use Rattle.semantics.proofs.Agree.{test-regular, sound-iff}
 use Rattle.published.specs.Published.{SGroup, Namespace, Node, IsSGroupNode}
 use Rattle.published.specs.SeenState.{seen, names_seen, published, seen_table, seen-sound}
 use Rattle.published.specs.WellFormed.{connected, free, FairNamespace, FairGroup, WellFormed}

@@ -10,7 +10,7 @@ use mathlib.Core.List.{List, [], ◌∷◌, map}
 use Rattle.std.proofs.Math.Dec.{eqb}
 use Rattle.nodes.specs.Sets.{has, union_all, word_at}
 use Rattle.nodes.specs.Bools.{by_test, by_eq}
-use Rattle.nodes.specs.SetLaws.{has-none, has-union}
+use Rattle.nodes.proofs.SetLaws.{has-none, has-union}
 use Rattle.entries.specs.Entries.{Entry, lookup}
 use Rattle.semantics.specs.Sizes.{group_names}
 use Rattle.semantics.specs.State.{Group, find, become, put, add_group, drop_group, all_members}

@@ -9,7 +9,7 @@ use mathlib.Core.List.{List, []}
 use Rattle.std.proofs.Math.Dec.{eqb}
 use borrow.Author.Tests.{eqb-true, eq-eqb, leb-false}
 use Rattle.nodes.specs.Sets.{node_limit, has, union, beyond}
-use Rattle.nodes.specs.SetLaws.{has-union, union-lt}
+use Rattle.nodes.proofs.SetLaws.{has-union, union-lt}
 use Rattle.entries.specs.Entries.{lookup}
 use Rattle.semantics.specs.Sizes.{group_limit, group_names}
 use Rattle.semantics.specs.State.{Group, State, with_groups, with_links, with_free, find, put, add_group}

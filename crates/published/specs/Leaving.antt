@@ -8,7 +8,7 @@ use Rattle.std.proofs.Math.Option.{Option, none, some}
 use Rattle.std.proofs.Math.Dec.{ltb}
 use borrow.Author.Tests.{eqb-true, eq-eqb, ltb-true, lt-ltb, not-true}
 use Rattle.nodes.specs.Sets.{node_limit, has, empty, union, inter, diff}
-use Rattle.nodes.specs.SetLaws.{has-union, has-inter, has_diff, has-none, has-below, below-pow, union-lt, inter-le-l, inter-le-r, diff-le}
+use Rattle.nodes.proofs.SetLaws.{has-union, has-inter, has_diff, has-none, has-below, below-pow, union-lt, inter-le-l, inter-le-r, diff-le}
 use Rattle.entries.specs.Entries.{lookup}
 use Rattle.semantics.specs.State.{Group, State, free_of, find, put, drop_group, all_members}
 use Rattle.semantics.specs.Ranges.{held}
@@ -18,7 +18,7 @@ use Rattle.semantics.specs.Groups.{of-found}
 use Rattle.semantics.specs.Members.{in-word}
 use Rattle.semantics.specs.FreeGroupsOfNodes.{loose-on_roster, loose_in, own_free}
 use Rattle.semantics.specs.Changed.{regular-found}
-use Rattle.semantics.specs.Freed.{touched-in, touched_out, regular-delete, regular-remove, regular-empty}
+use Rattle.semantics.proofs.Freed.{touched-in, touched_out, regular-delete, regular-remove, regular-empty}
 use Rattle.published.specs.Published.{Set, Map, of_some, ◌∖◌, ◌∩◌, any, with_at, less_at, Namespace, SGroup, GrNames, Node, Published, those, with_gr_names, IsSGroupNode, InterConnectNodes, Joined, LessSGroupS, RemoveSGroup, left_none, leaving, less_hosted, less_members}
 use Rattle.published.specs.SeenState.{seen, published, names_seen}
 use Rattle.published.specs.SomeBelow.{any-hit, any-is, any-has}

@@ -16,10 +16,10 @@ use Rattle.semantics.specs.Sizes.{names_per_group}
 use Rattle.semantics.specs.Soundness.{Sound}
 use Rattle.semantics.specs.Fits.{Fits}
 use Rattle.semantics.specs.Steps.{beside}
-use Rattle.semantics.specs.Lookups.{beside-refuses}
+use Rattle.semantics.proofs.Lookups.{beside-refuses}
 use Rattle.semantics.specs.Asks.{lookup_here}
 use Rattle.semantics.specs.Call.{call}
-use Rattle.semantics.specs.Calls.{calls-keep-sound}
+use Rattle.semantics.proofs.Calls.{calls-keep-sound}
 use Rattle.published.specs.Published.{Set, Map, of_some, ◌∖◌, ◌∩◌, any, with_at, less_at, SGroup, Published, IsSGroupSNode, FindName, MergeFreeNormalGroups, AddFreeNormalGroup, NewFreeNodes, True, Error, Undefined, Pid, gives, leaving, less_hosted, less_members, transition}
 use Rattle.published.specs.SomeBelow.{any-hit}
 use Rattle.published.specs.SeenState.{said, seen_table}

@@ -7,7 +7,7 @@ use Rattle.std.proofs.lemmas.Bool.{false≢true, eqb-false}
 use Rattle.std.proofs.Math.Option.{none, some}
 use Rattle.std.proofs.lemmas.List.{length-replicate}
 use Rattle.nodes.specs.Sets.{node_limit, has, single, beyond}
-use Rattle.nodes.specs.SetLaws.{has-none, has-single}
+use Rattle.nodes.proofs.SetLaws.{has-none, has-single}
 use Rattle.semantics.specs.Sizes.{names_per_group, group_names, table_words}
 use Rattle.semantics.specs.State.{find}
 use Rattle.answers.specs.Answers.{refuses, answer_of}
@@ -19,7 +19,7 @@ use Rattle.semantics.specs.Regular.{Regular}
 use Rattle.semantics.specs.Truth.{neither}
 use Rattle.semantics.specs.Members.{at-mapi}
 use Rattle.semantics.specs.OpenedRegular.{opened-regular}
-use Rattle.semantics.specs.Agree.{regular-test, sound-iff}
+use Rattle.semantics.proofs.Agree.{regular-test, sound-iff}
 use Rattle.answers.specs.declared.Value.TheVariants.{Ok}
 use Rattle.answers.specs.declared.Reason.{Reason}
 use Rattle.answers.specs.declared.Reason.TheVariants.{Done, TableLength, RosterSize, NodeUnknown}

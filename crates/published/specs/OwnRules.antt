@@ -10,7 +10,7 @@ use Rattle.std.proofs.Math.Pow.{pow_pos, pow-lt}
 use Rattle.nodes.specs.Sets as Nodes
 use Rattle.nodes.specs.Sets.{node_limit, has, single, union_all, empty}
 use Rattle.nodes.specs.Bools.{by_eq}
-use Rattle.nodes.specs.SetLaws.{has-union, has-single, has-none, has-ext, union-lt}
+use Rattle.nodes.proofs.SetLaws.{has-union, has-single, has-none, has-ext, union-lt}
 use Rattle.semantics.specs.Sizes.{group_names}
 use Rattle.semantics.specs.State.{Group, State, free_of, find, all_members}
 use Rattle.semantics.specs.Steps.{own_set, own_list}

@@ -11,9 +11,9 @@ use Rattle.semantics.specs.Soundness.{Sound}
 use Rattle.semantics.specs.Call.{call}
 use Rattle.semantics.specs.Regular.{Regular}
 use Rattle.semantics.specs.Connected.{regular-connect}
-use Rattle.semantics.specs.Agree.{test-regular, regular-test, sound-iff}
+use Rattle.semantics.proofs.Agree.{test-regular, regular-test, sound-iff}
 use Rattle.semantics.specs.Asks.{Asks}
-use Rattle.semantics.specs.Refused.{refused_links}
+use Rattle.semantics.proofs.Refused.{refused_links}
 use Rattle.published.specs.Published.{AddConnections}
 use Rattle.published.specs.SeenState.{seen_table, seen-sound, layout-seen}
 use Rattle.published.specs.ConnectRule.{connects}

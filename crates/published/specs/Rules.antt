@@ -17,7 +17,7 @@ use Rattle.answers.specs.declared.Reason.{Reason}
 use Rattle.answers.specs.declared.Reason.TheVariants.{CallerUnknown, GroupNameRange, NameZero, NodeUnknown, NotMember, NotRegistered, RunShort}
 use Rattle.semantics.specs.Regular.{Regular}
 use Rattle.semantics.specs.Truth.{neither}
-use Rattle.semantics.specs.Lookups.{host-asked}
+use Rattle.semantics.proofs.Lookups.{host-asked}
 use Rattle.semantics.specs.Connected.{regular-connect, size-connect}
 use Rattle.published.specs.Published as P
 use Rattle.published.specs.Published.{of_some, FindName, found_by, then_send, AddConnections, transition}

@@ -10,19 +10,19 @@ use Rattle.std.proofs.Math.ListN.{get_or-eq_default}
 use borrow.Author.Tests.{lt-ltb, le-ltb}
 use Rattle.nodes.specs.Sets.{node_limit, has, word_at}
 use Rattle.nodes.specs.Bools.{by_lt}
-use Rattle.nodes.specs.SetLaws.{has-none}
+use Rattle.nodes.proofs.SetLaws.{has-none}
 use Rattle.entries.specs.Entries.{lookup}
 use Rattle.semantics.specs.Sizes.{names_per_group}
 use Rattle.semantics.specs.State.{Group, State, free_of, find}
 use Rattle.semantics.specs.Table.{layout, state_of}
 use Rattle.semantics.specs.Soundness.{size_of, Sound}
 use Rattle.semantics.specs.WordsOfState.{Sized}
-use Rattle.semantics.specs.WordsMeaning.{Means}
-use Rattle.semantics.specs.KeyPlaces.{pid-is, group-is}
+use Rattle.semantics.proofs.WordsMeaning.{Means}
+use Rattle.semantics.proofs.KeyPlaces.{pid-is, group-is}
 use Rattle.semantics.specs.Regular.{Regular}
-use Rattle.semantics.specs.RoundTrip.{round_trip}
-use Rattle.semantics.specs.ReadOff.{state-sized, state-means}
-use Rattle.semantics.specs.Agree.{regular-test, sound-iff}
+use Rattle.semantics.proofs.RoundTrip.{round_trip}
+use Rattle.semantics.proofs.ReadOff.{state-sized, state-means}
+use Rattle.semantics.proofs.Agree.{regular-test, sound-iff}
 use Rattle.published.specs.Published.{Map, of_some, SGroup, Published, IsSGroupNode}
 unfoldable pub use Rattle.published.specs.Seen.{group_seen, names_seen, seen_table, set_word, how_many, chained, name_words, group_words, listed, said}
 

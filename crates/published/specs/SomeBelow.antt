@@ -5,7 +5,7 @@ use Rattle.std.proofs.lemmas.Bool.{false≢true, eqb-false, not-true}
 use Rattle.std.proofs.Math.Bool.{or-true, and-eq-true_iff}
 use Rattle.nodes.specs.Sets.{node_limit, has, empty, beyond}
 use Rattle.nodes.specs.Bools.{by_test, by_lt, by_eq, test-ext}
-use Rattle.nodes.specs.SetLaws.{has-none, has_above, has-below, below-pow, has-ext}
+use Rattle.nodes.proofs.SetLaws.{has-none, has_above, has-below, below-pow, has-ext}
 use Rattle.semantics.specs.Truth.{or_cases, unless}
 use Rattle.published.specs.Published.{Set, any}
 

@@ -19,14 +19,14 @@ use Rattle.semantics.specs.Sizes.{names_per_group}
 use Rattle.semantics.specs.State.{Group, find}
 use Rattle.semantics.specs.Table.{state_of}
 use Rattle.semantics.specs.Soundness.{Sound}
-use Rattle.semantics.specs.Agree.{sound-iff}
+use Rattle.semantics.proofs.Agree.{sound-iff}
 use Rattle.semantics.specs.FirstReason.{Test, first}
 use Rattle.semantics.specs.Fits.{Fits}
 use Rattle.semantics.specs.Asks.{Looks, lookup_here, lookup_at, send_here, send_at, LooksNone}
-use Rattle.semantics.specs.Lookups.{pid_of, Told, asker, lookup-told}
+use Rattle.semantics.proofs.Lookups.{pid_of, Told, asker, lookup-told}
 use Rattle.semantics.specs.Steps.{beside}
 use Rattle.semantics.specs.Call.{Call, call}
-use Rattle.semantics.specs.Calls.{call-sound, calls-keep-sound}
+use Rattle.semantics.proofs.Calls.{call-sound, calls-keep-sound}
 use Rattle.published.specs.Published as P
 use Rattle.published.specs.Published.{of_some, Published, SGroup, IsSGroupSNode, gives, joining, ◌∪◌, transition}
 use Rattle.published.specs.SeenState.{seen, published, said, seen_table, seen-sound}

@@ -5,7 +5,7 @@ use Rattle.std.proofs.Math.Bool.{and-eq-true_iff}
 use Rattle.std.proofs.lemmas.Bool.{not-true}
 use Rattle.nodes.specs.Sets.{node_limit, empty, roster, diff, word_at}
 use Rattle.nodes.specs.Bools.{by_lt, test-ext}
-use Rattle.nodes.specs.SetLaws.{has_diff, has-roster, below-pow}
+use Rattle.nodes.proofs.SetLaws.{has_diff, has-roster, below-pow}
 use Rattle.semantics.specs.Sizes.{group_limit, contents_at, members_at, links_at, free_at, bodies_at, table_words}
 use Rattle.semantics.specs.Soundness.{size_of, hidden_of, count_of, name_of, members_of, links_of, free_of, entry_of, In, FreeNormal, Sound}
 use Rattle.semantics.specs.Truth.{unless}

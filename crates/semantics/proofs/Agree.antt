@@ -10,12 +10,12 @@ use Rattle.semantics.specs.Test.{same, sound}
 use Rattle.semantics.specs.Soundness.{Sound}
 use Rattle.semantics.specs.Regular.{Regular}
 use Rattle.semantics.specs.WordsOfState.{Laid, laid, words_of}
-use Rattle.semantics.specs.RoundTrip.{sized, round_trip, length-layout}
+use Rattle.semantics.proofs.RoundTrip.{sized, round_trip, length-layout}
 use Rattle.semantics.specs.TestLaws.{same-iff, ◌also◌}
-use Rattle.semantics.specs.StateTest.{state-iff}
+use Rattle.semantics.proofs.StateTest.{state-iff}
 use Rattle.semantics.specs.WordByWord.{reads}
-use Rattle.semantics.specs.ClausesHold.{clauses-hold}
-use Rattle.semantics.specs.ClausesSuffice.{clauses-laid, clauses-state}
+use Rattle.semantics.proofs.ClausesHold.{clauses-hold}
+use Rattle.semantics.proofs.ClausesSuffice.{clauses-laid, clauses-state}
 
 pub test-regular : (cap : ℕ) (t : List ℕ) → sound cap t ≡ true → Regular cap (state_of cap t) × (layout cap (state_of cap t) ≡ t) × (length t ≡ table_words cap)
 unfolding sound

@@ -17,13 +17,13 @@ use Rattle.semantics.specs.GroupCommands.{GroupCommand, register_name, re_regist
 use Rattle.semantics.specs.Asks.{Asks, by_lookup, by_send, AsksNone}
 use Rattle.semantics.specs.Ranges.{bad_group, held}
 use Rattle.semantics.specs.Steps.{Outcome, Effect, keep, Result, Looked, error, as_member, for_member, full, name_words, own_list, listed, looked, look_in, ask, tell, send_on, asking, connect, inside, outcome, apply, target, group_step, rule, step}
-use Rattle.semantics.specs.Lookups.{beside-refuses}
+use Rattle.semantics.proofs.Lookups.{beside-refuses}
 use Rattle.semantics.specs.Table.{layout, state_of}
 use Rattle.semantics.specs.Soundness.{Sound}
 use Rattle.semantics.specs.Test.{sound}
-use Rattle.semantics.specs.Agree.{test-regular, sound-iff}
-use Rattle.semantics.specs.Call.{refused, call, opening}
-use Rattle.semantics.specs.Calls.{why, call-sound, call-unsound}
+use Rattle.semantics.proofs.Agree.{test-regular, sound-iff}
+use Rattle.semantics.specs.Call.{refused, call, opening, why}
+use Rattle.semantics.proofs.Calls.{call-sound, call-unsound}
 use Rattle.answers.specs.declared.Value.{Value}
 use Rattle.answers.specs.declared.Reason.{Reason}
 use Rattle.answers.specs.declared.Reason.TheVariants.{TableLength, Unsound}

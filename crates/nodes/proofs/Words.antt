@@ -6,7 +6,7 @@ use Rattle.std.proofs.Math.Pow.{pow-lt, split}
 use Rattle.std.proofs.lemmas.Bool.{lt-leb}
 use Rattle.nodes.specs.Sets.{node_limit, inter, diff, single, roster, beyond}
 use Rattle.nodes.specs.Bools.{by_lt}
-use Rattle.nodes.specs.SetLaws.{inter_comm, inter-diff, subset-roster}
+use Rattle.nodes.proofs.SetLaws.{inter_comm, inter-diff, subset-roster}
 
 -- `1 << i`
 pub shl_one : (i : ℕ) → i < node_limit → (1 * 2 ^ i) % 2 ^ node_limit ≡ single i

@@ -15,7 +15,7 @@ use Rattle.semantics.specs.Soundness.{count_of, contents_of, name_of, names_of, 
 use Rattle.semantics.specs.Places.{group_at}
 use Rattle.semantics.specs.EntryPlaces.{entry_at, entries_at}
 use Rattle.semantics.specs.WordsOfState.{Sized}
-use Rattle.semantics.specs.WordsMeaning.{Means}
+use Rattle.semantics.proofs.WordsMeaning.{Means}
 
 -- ---- s_groups from their contents words, members and bodies
 

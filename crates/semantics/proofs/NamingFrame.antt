@@ -23,11 +23,11 @@ use Rattle.semantics.specs.Groups.{Found, found, found_name}
 use Rattle.semantics.specs.Within.{step-within}
 use Rattle.semantics.specs.Places.{group_at, group-between, every-iff}
 use Rattle.semantics.specs.Bodies.{own_at}
-use Rattle.semantics.specs.RoundTrip.{sized}
+use Rattle.semantics.proofs.RoundTrip.{sized}
 use Rattle.semantics.specs.WordByWord.{reads}
-use Rattle.semantics.specs.WordsMeaning.{Means, in-state, in_words, regular-means}
-use Rattle.semantics.specs.Agree.{test-regular, test-laid}
-use Rattle.semantics.specs.Frame.{renamed, frame-other, frame-name}
+use Rattle.semantics.proofs.WordsMeaning.{Means, in-state, in_words, regular-means}
+use Rattle.semantics.proofs.Agree.{test-regular, test-laid}
+use Rattle.semantics.proofs.Frame.{renamed, frame-other, frame-name}
 
 -- the command changes a namespace
 abbrev pub Naming : GroupCommand → Type 0

@@ -4,7 +4,7 @@ use Rattle.std.proofs.Common.{sym, ap, ◌∙◌, arith, leb-false}
 use Rattle.std.proofs.lemmas.Bool.{false≢true, eqb-false, not-false}
 use Rattle.std.proofs.Math.Option.{Option, none, some}
 use Rattle.nodes.specs.Sets.{has, beyond}
-use Rattle.nodes.specs.SetLaws.{has-none}
+use Rattle.nodes.proofs.SetLaws.{has-none}
 use Rattle.entries.specs.Entries.{host, lookup, holds_pid}
 use Rattle.entries.specs.NamespaceSound as Namespace
 use Rattle.entries.specs.NamespaceKept.{sound-remove}
@@ -21,9 +21,9 @@ use Rattle.semantics.specs.Fits.{Fits}
 use Rattle.semantics.specs.Truth.{neither}
 use Rattle.semantics.specs.NamesKept.{not-held, sound-register, sound-re-register}
 use Rattle.semantics.specs.Changed.{regular-found, regular-hold, regular-join, regular-create}
-use Rattle.semantics.specs.Lookups.{host-asked}
+use Rattle.semantics.proofs.Lookups.{host-asked}
 use Rattle.semantics.specs.Connected.{regular-connect, size-connect}
-use Rattle.semantics.specs.Freed.{regular-delete, regular-left_in}
+use Rattle.semantics.proofs.Freed.{regular-delete, regular-left_in}
 
 -- the state that follows on a is regular
 record Kept {A : Type 0} (next : A → State) (a : A) : Type 0 where

@@ -11,7 +11,7 @@ use Rattle.semantics.specs.Mixing.{of_head, whole-mix, mixing, agree_through}
 use Rattle.semantics.specs.Lines.{Said, Line, SameGroup}
 use Rattle.semantics.specs.NewLines.{cost, news, all_news}
 use Rattle.semantics.specs.LineSteps.{said_by_step, step_of, step_move, step_say, RoomFor}
-use Rattle.semantics.specs.Swap.{unbounded, step-unbounded, swap-moves, swap-says, grows}
+use Rattle.semantics.proofs.Swap.{unbounded, step-unbounded, swap-moves, swap-says, grows}
 
 -- ---- a mix has as many new_s_group lines as its scripts
 

@@ -6,7 +6,7 @@ use Rattle.std.specs.Int.Count.{count_trailing_zeros, under, trailing_of_zero}
 use Rattle.nodes.specs.Sets.{node_limit, bit, has, inter, diff, single, lowest, rest}
 use Rattle.nodes.specs.Bools.{by_lt}
 use Rattle.nodes.specs.Digits.{bit-zero, bit_suc}
-use Rattle.nodes.specs.SetLaws.{without-member}
+use Rattle.nodes.proofs.SetLaws.{without-member}
 
 -- ---- the trailing zeros of a word of k digits
 

@@ -3,8 +3,8 @@ use Rattle.std.specs.Prelude.{◌≡◌, refl, true, false, [], ◌∷◌, ℕ}
 use Rattle.std.proofs.Common.{arith}
 use Rattle.std.specs.Int.Count.{count_trailing_zeros}
 use Rattle.nodes.specs.Sets.{has, union, inter, diff, roster, with_node, without_node, subset, beyond, count, lowest, rest, union_all, upto, unions_at}
-use Rattle.nodes.specs.TruthTable.{x, y, z, u, v, none, or, and, less, ◌≐◌, by-table}
-use Rattle.nodes.specs.Counts.{tally, count_tally}
+use Rattle.nodes.proofs.TruthTable.{x, y, z, u, v, none, or, and, less, ◌≐◌, by-table}
+use Rattle.nodes.proofs.Counts.{tally, count_tally}
 
 -- the nodes 0, 2 and 63 are in 0x8000_0000_0000_0005, the node 1 is not
 has-0 : has 0x8000_0000_0000_0005 0 ≡ true

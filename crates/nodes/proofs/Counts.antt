@@ -6,8 +6,8 @@ use Rattle.std.specs.Int.Count.{ones, ones_in, ones_step, ones-ones}
 use Rattle.std.proofs.lemmas.Nat.{ones_cat, ones-le}
 use Rattle.nodes.specs.Sets.{node_limit, bit, has, union, inter, diff, single, roster, with_node, without_node, subset, count, lowest, rest}
 use Rattle.nodes.specs.Digits.{bit-zero, bit_suc, bit-union, bit-inter, bit-diff, lt-pow}
-use Rattle.nodes.specs.SetLaws.{union-lt, inter-le-l, diff-le, inter_comm, inter-single-in, inter-single-out}
-use Rattle.nodes.specs.LowestNode.{lowest-has}
+use Rattle.nodes.proofs.SetLaws.{union-lt, inter-le-l, diff-le, inter_comm, inter-single-in, inter-single-out}
+use Rattle.nodes.proofs.LowestNode.{lowest-has}
 
 -- the members below n, counted one by one
 unfoldable pub tally : ℕ → ℕ → ℕ

@@ -14,21 +14,21 @@ use Rattle.semantics.specs.Steps.{creates}
 use Rattle.semantics.specs.Table.{sections, layout, state_of}
 use Rattle.semantics.specs.Soundness.{Sound, size_of, count_of, members_of, pid_named}
 use Rattle.semantics.specs.Test.{sound}
-use Rattle.semantics.specs.Call.{Call}
+use Rattle.semantics.specs.Call.{Call, why}
 use Rattle.semantics.specs.Regular.{Regular}
-use Rattle.semantics.specs.StepsKeep.{keeps}
-use Rattle.semantics.specs.ReadOff.{state-means}
-use Rattle.semantics.specs.KeyPlaces.{pid-is, group-is, same-found}
-use Rattle.semantics.specs.Agree.{test-regular, sound-iff}
+use Rattle.semantics.proofs.StepsKeep.{keeps}
+use Rattle.semantics.proofs.ReadOff.{state-means}
+use Rattle.semantics.proofs.KeyPlaces.{pid-is, group-is, same-found}
+use Rattle.semantics.proofs.Agree.{test-regular, sound-iff}
 use Rattle.semantics.specs.Mixes.{Turn, of, Mix, Disjoint, AllLines, EachOnce, whole, Agree}
 use Rattle.semantics.specs.Lines.{Said, Line, key, SameGroup, LineFits, call_move, call_say}
 use Rattle.semantics.specs.NewLines.{news, all_news}
 use Rattle.semantics.specs.GroupData.{GroupData, group_in}
 use Rattle.semantics.specs.LineSteps.{said_by_call, step_move, step_say}
 use Rattle.semantics.specs.Mixing.{of_head, of_tail, whole-mix, mixing, agree_through}
-use Rattle.semantics.specs.Swap.{isolation}
-use Rattle.semantics.specs.MixedStates.{mixed}
-use Rattle.semantics.specs.Calls.{call-sound, call-layout, why, call-unsound}
+use Rattle.semantics.proofs.Swap.{isolation}
+use Rattle.semantics.proofs.MixedStates.{mixed}
+use Rattle.semantics.proofs.Calls.{call-sound, call-layout, call-unsound}
 use Rattle.answers.specs.declared.Value.TheVariants.{Error}
 
 -- ---- scripts on a table that passes

@@ -6,7 +6,7 @@ use Rattle.std.proofs.Math.Bool.{and-eq-true_iff}
 use Rattle.std.proofs.Math.Option.{some}
 use Rattle.nodes.specs.Sets.{has, empty, union, inter, diff}
 use Rattle.nodes.specs.Bools.{by_test}
-use Rattle.nodes.specs.SetLaws.{has-union, has-inter, has_diff, has-none, has-below, below-pow, none-inter, inter-le-l, diff-le, union_all-in, union_all_out, subset-diff}
+use Rattle.nodes.proofs.SetLaws.{has-union, has-inter, has_diff, has-none, has-below, below-pow, none-inter, inter-le-l, diff-le, union_all-in, union_all_out, subset-diff}
 use Rattle.entries.specs.Entries.{Entry}
 use Rattle.entries.specs.NamespaceKept.{sound-drop_hosted}
 use Rattle.semantics.specs.Sizes.{group_limit}

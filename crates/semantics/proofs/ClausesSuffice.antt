@@ -5,7 +5,7 @@ use Rattle.std.proofs.Math.Bool.{and-eq-true_iff}
 use Rattle.std.proofs.Math.ListN.{get_or-eq_default}
 use Rattle.nodes.specs.Sets.{node_limit, has}
 use Rattle.nodes.specs.Bools.{by_lt, by_eq, by_test, test-ext}
-use Rattle.nodes.specs.SetLaws.{has-none, below-pow}
+use Rattle.nodes.proofs.SetLaws.{has-none, below-pow}
 use Rattle.entries.specs.Entries.{word_of}
 use Rattle.semantics.specs.Sizes.{group_limit}
 use Rattle.semantics.specs.State.{Group, State}
@@ -16,11 +16,11 @@ use Rattle.semantics.specs.Truth.{unless}
 use Rattle.semantics.specs.Places.{group_at, every-iff, rising-iff}
 use Rattle.semantics.specs.EntryPlaces.{no_entry, entry_at, climbing-iff, distinct-iff, hosted-iff}
 use Rattle.semantics.specs.TestLaws.{◌also◌}
-use Rattle.semantics.specs.StateTest.{has-place}
+use Rattle.semantics.proofs.StateTest.{has-place}
 use Rattle.semantics.specs.WordsOfState.{Sized, Laid}
 use Rattle.semantics.specs.WordByWord.{Reads, reads-laid}
-use Rattle.semantics.specs.WordsMeaning.{Means, in-same, in_words, past-groups, free_normal-iff}
-use Rattle.semantics.specs.ReadOff.{state-sized, state-means}
+use Rattle.semantics.proofs.WordsMeaning.{Means, in-same, in_words, past-groups, free_normal-iff}
+use Rattle.semantics.proofs.ReadOff.{state-sized, state-means}
 
 module _ {cap : ℕ} {st : State} {t : List ℕ} (s : Sound cap t) (m : Means cap st t) where
   -- ---- the words are those of the state

@@ -4,7 +4,7 @@ use Rattle.std.proofs.Common.{sym, ap, ap₂, ◌∙◌, subst}
 use Rattle.std.proofs.Math.ListN.{get_or-map}
 use Rattle.std.proofs.lemmas.List.{length-map}
 use Rattle.nodes.specs.Sets.{has, union, inter, diff}
-use Rattle.nodes.specs.SetLaws.{has-none, has-union, has-inter, has_diff, has-ext}
+use Rattle.nodes.proofs.SetLaws.{has-none, has-union, has-inter, has_diff, has-ext}
 
 -- a set made of the sets of a list, which stand by their places
 pub data Term : Type 0 where

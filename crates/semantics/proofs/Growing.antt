@@ -18,10 +18,10 @@ use Rattle.semantics.specs.Test.{sound}
 use Rattle.semantics.specs.Call.{call}
 use Rattle.semantics.specs.Members.{length-interconnect, length-leave_free, length-one_free_group, getD-mapi, has_meet}
 use Rattle.semantics.specs.Groups.{length-put, length-add_group, length-drop_group}
-use Rattle.semantics.specs.StateTest.{has-place}
+use Rattle.semantics.proofs.StateTest.{has-place}
 use Rattle.semantics.specs.WordsOfState.{Sized, Laid, laid, links-word}
-use Rattle.semantics.specs.Agree.{test-laid}
-use Rattle.semantics.specs.Calls.{call-sound, call-unsound}
+use Rattle.semantics.proofs.Agree.{test-laid}
+use Rattle.semantics.proofs.Calls.{call-sound, call-unsound}
 use Rattle.answers.specs.declared.Value.{Value}
 
 -- ---- lists of connections

@@ -8,8 +8,8 @@ use Rattle.std.proofs.Math.Bool.{true, false, cond, and-true, or-true, or-false,
 use Prim.Native.Nat.{ℕ, zero, suc, ◌+◌, ◌<◌, ◌^◌}
 use native.Mathlib.Omega.{arith}
 use Rattle.nodes.specs.Sets.{node_limit, has, lowest, rest, without_node, word_at, upto, walk, gather, unions_at}
-use Rattle.nodes.specs.SetLaws.{has-none, has-union, has-without_node}
-use Rattle.nodes.specs.LowestNode.{lowest-lt, lowest-has, lowest-below}
+use Rattle.nodes.proofs.SetLaws.{has-none, has-union, has-without_node}
+use Rattle.nodes.proofs.LowestNode.{lowest-lt, lowest-has, lowest-below}
 
 module _ {A : Type 0} (f : A → ℕ → A) where
   -- ---- node by node

@@ -4,7 +4,7 @@ use Rattle.std.proofs.Common.{sym, ap, ◌∙◌, true≢false, arith, eq-eqb, n
 use Rattle.std.proofs.Math.Bool.{and-eq-true_iff}
 use Rattle.std.proofs.Math.ListN.{get_or-eq_default}
 use Rattle.nodes.specs.Sets.{node_limit, has}
-use Rattle.nodes.specs.SetLaws.{has-none, has-below, has-ext}
+use Rattle.nodes.proofs.SetLaws.{has-none, has-below, has-ext}
 use Rattle.entries.specs.Entries.{word_of}
 use Rattle.semantics.specs.Sizes.{table_words}
 use Rattle.semantics.specs.State.{Group, State}
@@ -16,7 +16,7 @@ use Rattle.semantics.specs.Places.{group_at, every-iff, rising-iff}
 use Rattle.semantics.specs.EntryPlaces.{no_entry, entry_at, climbing-iff, distinct-iff, hosted-iff}
 use Rattle.semantics.specs.FreeGroupsOfNodes.{loose-on_roster, loose_in}
 use Rattle.semantics.specs.WordByWord.{Reads}
-use Rattle.semantics.specs.WordsMeaning.{Means, in-same, in-state, past-groups, free_normal-iff, counted-regular, regular-means}
+use Rattle.semantics.proofs.WordsMeaning.{Means, in-same, in-state, past-groups, free_normal-iff, counted-regular, regular-means}
 
 module _ {cap : ℕ} {st : State} {t : List ℕ} (long : length t ≡ table_words cap) (r : Regular cap st) (w : Reads cap st t) where
   m : Means cap st t

@@ -6,7 +6,7 @@ use Rattle.std.proofs.Math.Bool.{and-eq-true_iff}
 use Rattle.std.proofs.Math.ListN.{get_or-eq_default}
 use Rattle.nodes.specs.Sets.{node_limit, has}
 use Rattle.nodes.specs.Bools.{by_lt}
-use Rattle.nodes.specs.SetLaws.{has-none, has-below, has-ext, below-pow}
+use Rattle.nodes.proofs.SetLaws.{has-none, has-below, has-ext, below-pow}
 use Rattle.semantics.specs.State.{Group, State, free_nodes}
 use Rattle.semantics.specs.Test.{alli, each, linked, met, freely, sound_group, state_tests, sound_state}
 use Rattle.semantics.specs.Regular.{Met, loose, RegularGroup, Regular}

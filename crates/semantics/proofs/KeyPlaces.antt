@@ -14,7 +14,7 @@ use Rattle.semantics.specs.Groups.{found_name}
 use Rattle.semantics.specs.Changed.{regular-found}
 use Rattle.semantics.specs.Places.{no_group, group_at}
 use Rattle.semantics.specs.EntryPlaces.{no_entry}
-use Rattle.semantics.specs.WordsMeaning.{Means}
+use Rattle.semantics.proofs.WordsMeaning.{Means}
 
 -- ---- the place of a key
 

@@ -14,14 +14,14 @@ use Rattle.semantics.specs.Steps.{step, opened}
 use Rattle.semantics.specs.Table.{layout, state_of}
 use Rattle.semantics.specs.Soundness.{Sound}
 use Rattle.semantics.specs.Test.{sound}
-use Rattle.semantics.specs.Call.{Call, refused, written, call, opening}
+use Rattle.semantics.specs.Call.{Call, refused, written, why, call, opening}
 use Rattle.semantics.specs.Regular.{Regular}
 use Rattle.semantics.specs.Fits.{Fits}
-use Rattle.semantics.specs.StepsKeep.{keeps}
+use Rattle.semantics.proofs.StepsKeep.{keeps}
 use Rattle.semantics.specs.OpenedRegular.{opened-regular}
 use Rattle.semantics.specs.Truth.{neither}
-use Rattle.semantics.specs.RoundTrip.{round_trip}
-use Rattle.semantics.specs.Agree.{test-regular, regular-test, sound-iff}
+use Rattle.semantics.proofs.RoundTrip.{round_trip}
+use Rattle.semantics.proofs.Agree.{test-regular, regular-test, sound-iff}
 use Rattle.answers.specs.declared.Answer.{Answer}
 use Rattle.answers.specs.declared.Value.TheVariants.{Ok, Error}
 use Rattle.answers.specs.declared.Reason.{Reason}
@@ -37,10 +37,6 @@ pub call-layout : (room i : ℕ) (c : Command) (st : State) → Regular names_pe
 call-layout room i c st w =
     call-sound room i c (layout names_per_group st) (regular-test names_per_group st w)
     ∙ ap (λ (s : State). written (step room i c s)) (round_trip names_per_group st w)
-
--- why a table that does not pass is refused
-abbrev pub why : List ℕ → Reason
-why t = cond (eqb (length t) (table_words names_per_group)) Unsound TableLength
 
 -- on a table that does not pass, a call changes nothing
 pub call-unsound : (room i : ℕ) (c : Command) (t : List ℕ) → sound names_per_group t ≡ false → call room i c t ≡ refused (why t) t

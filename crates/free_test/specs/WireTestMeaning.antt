@@ -1,6 +1,6 @@
 -- What the tests of connections and free normal groups say, in the clauses of the soundness of a table. L and F give the words of a node, as
 -- `links_of t` and `Free-of t` do; a test reads them from runs that agree with them. Assumes nothing.
-use Rattle.std.specs.Prelude.{◌≡◌, refl, ◌↔◌, ◌≢◌, ◌⊎◌, Bool, true, false, not, ◌&&◌, ◌||◌, cond, List, ℕ, ◌-◌, ◌^◌, ◌≤◌, ◌<◌, eqb, length}
+use Rattle.std.specs.Prelude.{◌≡◌, refl, ◌↔◌, ◌≢◌, ◌⊎◌, Bool, true, false, not, ◌&&◌, ◌||◌, cond, List, ℕ, ◌^◌, ◌≤◌, ◌<◌, eqb, length}
 use Rattle.std.proofs.Math.Path.{sym, ap}
 use Rattle.std.proofs.Common.{ap₂, ◌∙◌, inl, inr, true≢false, arith, eq-eqb, ne_eqb}
 use Rattle.std.proofs.Math.Logic.{⊎_elim}
@@ -11,7 +11,7 @@ use Rattle.nodes.proofs.SetLaws.{has-none, has-below, below-pow, has-ext, has-un
 use Rattle.nodes.proofs.LowestNode.{lowest-lt, lowest-has, lowest-le}
 use Rattle.semantics.specs.Soundness.{In}
 use Rattle.semantics.specs.Test.{freely}
-use Rattle.free_test.specs.WireTests.{all_of, one_a_node, both_ways, links_sound, others_met, members_met, free_sound}
+use Rattle.free_test.specs.WireTests.{all_of, one_a_node, links_sound, others_met, members_met, free_sound}
 use Rattle.free_test.specs.Below.{tests, of_iff, not_iff, eqb-iff, tail-iff, within-iff}
 use Rattle.free_test.specs.Loose.{freely-none, none-lowest}
 

@@ -13,7 +13,6 @@ use Rattle.answers.specs.declared.Value.TheVariants.{Listed}
 use Rattle.answers.specs.declared.Reason.TheVariants.{Done, NodeUnknown, RunShort}
 use Rattle.semantics.specs.Sizes.{group_names, names_per_group, table_words, row_words}
 use Rattle.semantics.specs.Table.{state_of}
-use Rattle.semantics.specs.Test.{sound}
 use Rattle.semantics.specs.TestLaws.{same-iff}
 use Rattle.semantics.specs.Soundness.{size_of}
 use Rattle.semantics.specs.WordsOfState.{size_is}

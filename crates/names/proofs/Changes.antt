@@ -1,16 +1,9 @@
 -- The answers of the namespace functions as the code takes them apart. Assumes nothing.
-use mathlib.Core.Path.{◌≡◌, refl, sym, ap, ◌∙◌, subst}
+use mathlib.Core.Path.{◌≡◌, refl, sym, ap, ◌∙◌}
 use mathlib.Core.Bool.{Bool, true, false, cond}
 use mathlib.Core.Option.{Option, none, some}
-use mathlib.Core.List.{List, [], ◌∷◌}
 use Prim.Native.Nat.{ℕ}
 use native.Mathlib.Omega.{arith}
-use denote.Enum.Declared.{tag_of}
-use types.Run.{OneOf, miss}
-use Rattle.entries.specs.contracts.Change as Change-type
-use Rattle.entries.specs.contracts.Found as Found-type
-use Rattle.entries.specs.contracts.Held as Held-type
-use Rattle.entries.specs.contracts.Seen as Seen-type
 use Rattle.nodes.specs.Sets.{has}
 use Rattle.entries.specs.Entries.{host}
 use Rattle.entries.specs.Raw.{yes_no, answer_at, lookup_seen}
@@ -35,13 +28,9 @@ pub was-held : (x : Change) (o : Option ℕ) → x ≡ changed o → x ≡ chang
 was-held x (some p) e d = refl
 was-held x none e d = let z : ◌≡◌ {A = ℕ} 0 1 = cc in absurd (omega arith)
 
--- the places of the variants after Done
-abbrev unmade : List ℕ
-unmade = 1 ∷ 2 ∷ 3 ∷ []
-
 -- any other is at one that is not
-pub was-absent : (x : Change) (o : Option ℕ) → x ≡ changed o → OneOf unmade (tag_of Change-type.the_type x) → false ≡ held o
-was-absent x (some p) e k = absurd (miss unmade 0 tt (subst (λ (y : Change). OneOf unmade (tag_of Change-type.the_type y)) e k))
+pub was-absent : (x : Change) (o : Option ℕ) → x ≡ changed o → (x ≡ change.Done → ⊥) → false ≡ held o
+was-absent x (some p) e k = absurd (k e)
 was-absent x none e k = refl
 
 -- ---- a test
@@ -50,12 +39,8 @@ pub was-yes : (x : Held) (b : Bool) → x ≡ yes_no b → x ≡ held-as.Yes →
 was-yes x true e d = refl
 was-yes x false e d = let z : ◌≡◌ {A = ℕ} 0 1 = cc in absurd (omega arith)
 
--- the places of the two variants after the first
-abbrev other : List ℕ
-other = 1 ∷ 2 ∷ []
-
-pub was-not : (x : Held) (b : Bool) → x ≡ yes_no b → OneOf other (tag_of Held-type.the_type x) → false ≡ b
-was-not x true e k = absurd (miss other 0 tt (subst (λ (y : Held). OneOf other (tag_of Held-type.the_type y)) e k))
+pub was-not : (x : Held) (b : Bool) → x ≡ yes_no b → (x ≡ held-as.Yes → ⊥) → false ≡ b
+was-not x true e k = absurd (k e)
 was-not x false e k = refl
 
 -- ---- a search
@@ -64,15 +49,15 @@ pub found_some : (i : ℕ) {j p : ℕ} (x : Found) (o : Option ℕ) → x ≡ an
 found_some i x none e d = let z : ◌≡◌ {A = ℕ} 0 1 = cc in absurd (omega arith)
 found_some i x (some q) e d = cc
 
-pub found_none : (i : ℕ) (x : Found) (o : Option ℕ) → x ≡ answer_at i o → OneOf other (tag_of Found-type.the_type x) → o ≡ none
+pub found_none : (i : ℕ) (x : Found) (o : Option ℕ) → x ≡ answer_at i o → ((j p : ℕ) → x ≡ found_as.At j p → ⊥) → o ≡ none
 found_none i x none e k = refl
-found_none i x (some q) e k = absurd (miss other 0 tt (subst (λ (y : Found). OneOf other (tag_of Found-type.the_type y)) e k))
+found_none i x (some q) e k = absurd (k i q e)
 
 -- whether it found the name is whether the name is held
 pub found-held : (i : ℕ) {j p : ℕ} (x : Found) (o : Option ℕ) → x ≡ answer_at i o → x ≡ found_as.At j p → held o ≡ true
 found-held i x o e d = ap held (found_some i x o e d)
 
-pub found-absent : (i : ℕ) (x : Found) (o : Option ℕ) → x ≡ answer_at i o → OneOf other (tag_of Found-type.the_type x) → held o ≡ false
+pub found-absent : (i : ℕ) (x : Found) (o : Option ℕ) → x ≡ answer_at i o → ((j p : ℕ) → x ≡ found_as.At j p → ⊥) → held o ≡ false
 found-absent i x o e k = ap held (found_none i x o e k)
 
 -- ---- a lookup
@@ -86,12 +71,9 @@ seen-looked members x (some p) e = go (has members (host p)) ∙ ap looked_in (s
     go true = refl
     go false = refl
 
--- the places of the variants that have no pid
-abbrev pidless : List ℕ
-pidless = 2 ∷ 3 ∷ []
-
-pub seen_none : (x : Seen) → OneOf pidless (tag_of Seen-type.the_type x) → looked_in x ≡ nothing_found NotRegistered
-seen_none (seen_as.Inside p) k = absurd (miss pidless 0 tt k)
-seen_none (seen_as.Outside p) k = absurd (miss pidless 1 tt k)
-seen_none seen_as.Absent k = refl
-seen_none seen_as.Unfit k = refl
+-- one that has no pid
+pub seen_none : (x : Seen) → ((p : ℕ) → x ≡ seen_as.Inside p → ⊥) → ((p : ℕ) → x ≡ seen_as.Outside p → ⊥) → looked_in x ≡ nothing_found NotRegistered
+seen_none (seen_as.Inside p) h k = absurd (h p refl)
+seen_none (seen_as.Outside p) h k = absurd (k p refl)
+seen_none seen_as.Absent h k = refl
+seen_none seen_as.Unfit h k = refl

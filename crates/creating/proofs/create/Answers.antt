@@ -18,7 +18,6 @@ new_s_group-requires c =
     let ok = c.loop-i.invariant.0.whole in
     record { t_len = (test-regular names_per_group _ ok).2; t_value = ok }
 
--- CONVERT: the context at of At-loop as a whole
 pub loop-i-preserved : goal.loop-i-preserved
 loop-i-preserved c =
     let l = c.loop-i-test.true in (

@@ -28,15 +28,21 @@ loop-i-preserved c =
     (search rules, tested, ap (λ (w : ℕ). union w (members_of t i)) c.loop-i.invariant.2 ∙ more, rw add-one)
 
 pub returns-then-right-beyond : goal.returns-then-right-beyond
-returns-then-right-beyond c = (let the : cond true (grouped.Nodes v.all) grouped.Wrong ≡ grouped_of a.cap a.t.now a.g a.n = let v = c.loop-i in
+returns-then-right-beyond c =
+    let v = c.loop-i in
     let a = c.args in
     let end : v.i ≡ a.g = omega arith in
     let few : v.i ≤ group_limit = omega (arith, c.requires.1) in
-    rw (← end) (grouped-told a.cap a.t.now v.i a.n c.requires.0 few v.right v.invariant.1 v.all v.invariant.2 c.beyond.result c.beyond.ensures true c.if-right-beyond.true) in the)
+    let the : cond true (grouped.Nodes v.all) grouped.Wrong ≡ grouped_of a.cap a.t.now a.g a.n =
+        rw (← end) (grouped-told a.cap a.t.now v.i a.n c.requires.0 few v.right v.invariant.1 v.all v.invariant.2 c.beyond.result c.beyond.ensures true c.if-right-beyond.true) in
+    the
 
 pub returns-else-right-beyond : goal.returns-else-right-beyond
-returns-else-right-beyond c = (let the : cond false (grouped.Nodes v.all) grouped.Wrong ≡ grouped_of a.cap a.t.now a.g a.n = let v = c.loop-i in
+returns-else-right-beyond c =
+    let v = c.loop-i in
     let a = c.args in
     let end : v.i ≡ a.g = omega arith in
     let few : v.i ≤ group_limit = omega (arith, c.requires.1) in
-    rw (← end) (grouped-told a.cap a.t.now v.i a.n c.requires.0 few v.right v.invariant.1 v.all v.invariant.2 c.beyond.result c.beyond.ensures false c.if-right-beyond.false) in the)
+    let the : cond false (grouped.Nodes v.all) grouped.Wrong ≡ grouped_of a.cap a.t.now a.g a.n =
+        rw (← end) (grouped-told a.cap a.t.now v.i a.n c.requires.0 few v.right v.invariant.1 v.all v.invariant.2 c.beyond.result c.beyond.ensures false c.if-right-beyond.false) in
+    the

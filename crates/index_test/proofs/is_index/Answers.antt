@@ -32,7 +32,7 @@ pub slice_bounds-all_zero-end : goal.slice_bounds-all_zero-end
 slice_bounds-all_zero-end c = omega (arith, (let the : row_words * c.names_total-count.result ≤ length c.args.index.now = omega (arith, walk-fits names_per_group c.args.t.now c.requires.t_value 0, c.names_total-count.ensures) in the))
 
 pub returns-then-not-all_zero : goal.returns-then-not-all_zero
-returns-then-not-all_zero c = (let the : false && all_right 0 (read_rows n.names-total.result a.index.now) (walk (here a.t.now).groups) ≡ same a.index.now (index_of_table names_per_group a.t.now) = let index = c.args.index.now in
+returns-then-not-all_zero c = (let the : false && all_right 0 (read_rows c.names_total-count.result c.args.index.now) (walk (here c.args.t.now).groups) ≡ same c.args.index.now (index_of_table names_per_group c.args.t.now) = let index = c.args.index.now in
     let zeros : all_zero (drop (row_words * c.names_total-count.result) index) ≡ false = ap all_zero (sym (part_to_end index (row_words * c.names_total-count.result))) ∙ sym c.all_zero.ensures ∙ c.if-not-all_zero.true in
     rw zeros at (index-verdict c.args.t.now index c.names_total-count.result c.requires.t_value c.requires.index_len c.names_total-count.ensures) in the)
 
@@ -45,6 +45,6 @@ rows_right-requires c =
 
 pub returns : goal.returns
 returns c =
-    c.rows_right.ensures ∙ (let the : true && all_right 0 (read_rows n.names-total.result a.index.now) (walk (here a.t.now).groups) ≡ same a.index.now (index_of_table names_per_group a.t.now) = let index = c.args.index.now in
+    c.rows_right.ensures ∙ (let the : true && all_right 0 (read_rows c.names_total-count.result c.args.index.now) (walk (here c.args.t.now).groups) ≡ same c.args.index.now (index_of_table names_per_group c.args.t.now) = let index = c.args.index.now in
     let zeros : all_zero (drop (row_words * c.names_total-count.result) index) ≡ true = ap all_zero (sym (part_to_end index (row_words * c.names_total-count.result))) ∙ sym c.all_zero.ensures ∙ c.if-not-all_zero.false in
     rw zeros at (index-verdict c.args.t.now index c.names_total-count.result c.requires.t_value c.requires.index_len c.names_total-count.ensures) in the)

@@ -19,17 +19,17 @@ returns-then-key-last c =
     sym (c.loop-k.invariant.1 ∙ wrong-key c.args.index.now c.args.count c.requires.count_in_bounds _ c.loop-k.last c.loop-k.k c.loop-k-test.true c.if-key-last.true)
 
 pub returns-then-name-eq0 : goal.returns-then-name-eq0
-returns-then-name-eq0 c = (let the : false ≡ all_right 0 (read_rows a.count a.index.now) (walk (here a.t.now).groups) = (let the : false ≡ all_right 0 (read_rows a.count a.index.now) (walk (here a.t.now).groups) = sym (c.loop-k.invariant.1 ∙ wrong_row c.args.index.now c.args.count c.requires.count_in_bounds _ c.loop-k.last c.loop-k.k c.loop-k-test.true (unnamed c.args.t.now c.requires.t_value _ (λ a b. omega arith))) in the) in the)
+returns-then-name-eq0 c = (let the : false ≡ all_right 0 (read_rows c.args.count c.args.index.now) (walk (here c.args.t.now).groups) = sym (c.loop-k.invariant.1 ∙ wrong_row c.args.index.now c.args.count c.requires.count_in_bounds _ c.loop-k.last c.loop-k.k c.loop-k-test.true (unnamed c.args.t.now c.requires.t_value _ (λ a b. omega arith))) in the)
 
 pub returns-then-name-ge-HALF_WORD : goal.returns-then-name-ge-HALF_WORD
-returns-then-name-ge-HALF_WORD c = (let the : false ≡ all_right 0 (read_rows a.count a.index.now) (walk (here a.t.now).groups) = (let the : false ≡ all_right 0 (read_rows a.count a.index.now) (walk (here a.t.now).groups) = sym (c.loop-k.invariant.1 ∙ wrong_row c.args.index.now c.args.count c.requires.count_in_bounds _ c.loop-k.last c.loop-k.k c.loop-k-test.true (unnamed c.args.t.now c.requires.t_value _ (λ a b. omega arith))) in the) in the)
+returns-then-name-ge-HALF_WORD c = (let the : false ≡ all_right 0 (read_rows c.args.count c.args.index.now) (walk (here c.args.t.now).groups) = sym (c.loop-k.invariant.1 ∙ wrong_row c.args.index.now c.args.count c.requires.count_in_bounds _ c.loop-k.last c.loop-k.k c.loop-k-test.true (unnamed c.args.t.now c.requires.t_value _ (λ a b. omega arith))) in the)
 
 pub has_row-requires : goal.has_row-requires
 has_row-requires c =
     record { t_len = c.requires.t_len; t_value = c.requires.t_value; slots_len = c.requires.slots_len; name_nonzero = omega arith; name_lt_half_word = omega arith }
 
 pub returns-then-not-has_row : goal.returns-then-not-has_row
-returns-then-not-has_row c = (let the : false ≡ all_right 0 (read_rows a.count a.index.now) (walk (here a.t.now).groups) = sym (c.loop-k.invariant.1 ∙ wrong_row c.args.index.now c.args.count c.requires.count_in_bounds _ c.loop-k.last c.loop-k.k c.loop-k-test.true (sym c.has_row.ensures ∙ c.if-not-has_row.true)) in the)
+returns-then-not-has_row c = (let the : false ≡ all_right 0 (read_rows c.args.count c.args.index.now) (walk (here c.args.t.now).groups) = sym (c.loop-k.invariant.1 ∙ wrong_row c.args.index.now c.args.count c.requires.count_in_bounds _ c.loop-k.last c.loop-k.k c.loop-k-test.true (sym c.has_row.ensures ∙ c.if-not-has_row.true)) in the)
 
 pub loop-k-preserved : goal.loop-k-preserved
 loop-k-preserved c = (

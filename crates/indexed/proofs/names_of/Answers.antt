@@ -11,4 +11,4 @@ returns-in_default c =
 pub names_of-requires : goal.names_of-requires
 names_of-requires c =
     let a = c.args in
-    let both = index_there a.table.now a.index.now c.index_reason-reason.ensures c.in-Done.is in record { t_len = both.0; t_value = both.1; index_value = both.2 }
+    let both = index_there a.table.now a.index.now c.index_reason-reason.ensures c.in-Done.is in record { t_len = both.0; t_value = both.1.0; index_value = both.1.1 }

@@ -17,16 +17,16 @@ module _ {d e : Indexed} (is : d ≡ e) where
 pub returns-then-index-ne-INDEX_WORDS : goal.returns-then-index-ne-INDEX_WORDS
 returns-then-index-ne-INDEX_WORDS c =
     let e = opened-misfit c.args.n c.args.hidden c.args.table.now c.args.index.now c.if-index-ne-INDEX_WORDS.true in
-    let both = shows e (c.misfit.ensures c.args.hidden c.args.index.now c.if-index-ne-INDEX_WORDS.true ∙ ap (λ (f : Indexed). f.given.answer) e) refl refl in record { value = both.0; table_after = both.1; index_after = both.2 }
+    let both = shows e (c.misfit.ensures c.args.hidden c.args.index.now c.if-index-ne-INDEX_WORDS.true ∙ ap (λ (f : Indexed). f.given.answer) e) refl refl in record { value = both.0; table_after = both.1.0; index_after = both.1.1 }
 
 pub returns-then-number-eq0 : goal.returns-then-number-eq0
 returns-then-number-eq0 c =
     let a = c.args in
     let both = shows (opened-zeroed a.n a.hidden a.table.now a.index.now c.if-index-ne-INDEX_WORDS.false c.number.ensures c.open-answer.ensures.value c.if-number-eq0.true)
-    c.open-answer.ensures.value c.open-answer.ensures.t_after (c.clear.ensures ∙ ap (λ (m : ℕ). replicate m 0) c.if-index-ne-INDEX_WORDS.false) in record { value = both.0; table_after = both.1; index_after = both.2 }
+    c.open-answer.ensures.value c.open-answer.ensures.t_after (c.clear.ensures ∙ ap (λ (m : ℕ). replicate m 0) c.if-index-ne-INDEX_WORDS.false) in record { value = both.0; table_after = both.1.0; index_after = both.1.1 }
 
 pub returns-else-number-eq0 : goal.returns-else-number-eq0
 returns-else-number-eq0 c =
     let a = c.args in
     let both = shows (opened_left a.n a.hidden a.table.now a.index.now c.if-index-ne-INDEX_WORDS.false c.number.ensures c.open-answer.ensures.value c.if-number-eq0.false)
-    c.open-answer.ensures.value c.open-answer.ensures.t_after refl in record { value = both.0; table_after = both.1; index_after = both.2 }
+    c.open-answer.ensures.value c.open-answer.ensures.t_after refl in record { value = both.0; table_after = both.1.0; index_after = both.1.1 }

@@ -22,13 +22,13 @@ bounds-rows-r c =
     omega (arith, row_lt c.args.apart c.requires.1 c.requires.2 c.loop-k.k (omega arith))
 
 pub overflow_mul-r-in-loop-k : goal.overflow_mul-r-in-loop-k
-overflow_mul-r-in-loop-k c = omega (arith, (omega (arith, row_lt c.args.apart c.requires.1 c.requires.2 c.loop-k.k (omega arith))))
+overflow_mul-r-in-loop-k c = omega (arith, row_lt c.args.apart c.requires.1 c.requires.2 c.loop-k.k (omega arith))
 
 pub overflow_add-r : goal.overflow_add-r
-overflow_add-r c = omega (arith, (omega (arith, row_lt c.args.apart c.requires.1 c.requires.2 c.loop-k.k (omega arith))))
+overflow_add-r c = omega (arith, row_lt c.args.apart c.requires.1 c.requires.2 c.loop-k.k (omega arith))
 
 pub offset_bounds-rows-r : goal.offset_bounds-rows-r
-offset_bounds-rows-r c = omega (arith, (omega (arith, row_lt c.args.apart c.requires.1 c.requires.2 c.loop-k.k (omega arith))))
+offset_bounds-rows-r c = omega (arith, row_lt c.args.apart c.requires.1 c.requires.2 c.loop-k.k (omega arith))
 
 pub overflow_add-y : goal.overflow_add-y
 overflow_add-y c = omega (arith, bounds-rows-r-in-loop-k c)
@@ -58,7 +58,7 @@ loop-k-preserved c =
       search rules,
       rw (c.upper.ensures, c.lower.ensures)
           (one_more a.apart a.j a.mask a.rows.now at.rows at.k c.requires.1 c.requires.2 c.requires.3 (omega arith) at.invariant.1
-          (rw c.lower.ensures at c.lower.type-inv) (rw c.upper.ensures at c.upper.type-inv)),
+          (rw c.lower.ensures at c.lower.type_inv) (rw c.upper.ensures at c.upper.type_inv)),
     )
 
 pub returns : goal.returns

@@ -23,10 +23,6 @@ loop-u-preserved c =
 pub loop-k-init : goal.loop-k-init
 loop-k-init c = (search rules, sym (below_none _))
 
-slice-aggregate-off-by-units :
-    tie.Need-slice-aggregate-off-by-units invariant-loop decreases-loop invariant-loop2 decreases-loop2
-slice-aggregate-off-by-units c = search rules
-
 pub off_by_units-off-requires : goal.off_by_units-off-requires
 off_by_units-off-requires c =
     let turned = c.loop-u in

@@ -39,7 +39,7 @@ returns-in-Outside c = ap looked_in (sym c.in-Outside.is) ∙ (let the : let a =
     (c.look_up.ensures (here t) (base t c.requires.t_value) (standing (regular t c.requires.t_value) ((let the : let a = c.args in Open a.node a.s c.in-Member.at (here a.t.now).groups = granted-here c.args.t.now c.requires.t_value c.args.node c.args.s _ (Member c.in-Member.at) c.place_for.ensures c.in-Member.is in the)).seat))) in the)
 
 pub returns-in_default : goal.returns-in_default
-returns-in_default c = sym (seen_none c.look_up.result c.in_default.in_default-own.keys3) ∙ (let the : let a = c.args in looked_in c.look_up.result ≡ ask a.node a.s a.n (here a.t.now) = let k = c.in-Member.at in
+returns-in_default c = sym (seen_none c.look_up.result c.in_default.not-Inside c.in_default.not-Outside) ∙ (let the : let a = c.args in looked_in c.look_up.result ≡ ask a.node a.s a.n (here a.t.now) = let k = c.in-Member.at in
     let a = c.args in
     let t = c.args.t.now in
     sym (ask-open a.node a.s a.n k (here t) c.if-s-eq0.false ((let the : let a = c.args in Open a.node a.s c.in-Member.at (here a.t.now).groups = granted-here c.args.t.now c.requires.t_value c.args.node c.args.s _ (Member c.in-Member.at) c.place_for.ensures c.in-Member.is in the))

@@ -13,14 +13,12 @@ loop-left-smaller c =
     let some : 0 < at.left = omega arith in
     walk-less _ at.invariant some c.rest-left.ensures
 
--- CONVERT: w.2 is a field w.VARIABLE-is now
--- CONVERT: w.1 is a field w.VARIABLE-is now
 pub loop-left-preserved : goal.loop-left-preserved
 loop-left-preserved c =
     let at = c.loop-left in
     let some : 0 < at.left = omega arith in
     let node = c.lowest-node in
-    elim c.if-i-words.branch [ then-i-words w ↦ walk-store _ at.invariant some node.ensures c.rest-left.ensures w.with.ensures w.2 | else-i-words w ↦ walk-past _ at.invariant some node.ensures c.rest-left.ensures w.if-i-words.false w.1 ]
+    elim c.if-i-words.branch [ then-i-words w ↦ walk-store _ at.invariant some node.ensures c.rest-left.ensures w.with.ensures w.words-is | else-i-words w ↦ walk-past _ at.invariant some node.ensures c.rest-left.ensures w.if-i-words.false w.words-is ]
 
 pub returns : goal.returns
 returns c = walk_end _ c.loop-left.invariant (search rules)

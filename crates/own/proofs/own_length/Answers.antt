@@ -10,7 +10,7 @@ use Rattle.own.proofs.own_length.Goals.{then-has, else-has}
 pub loop-i-init : goal.loop-i-init
 loop-i-init c = (omega arith, omega arith, omega arith, simp sub-zero (omega arith))
 
--- CONVERT: w.1 is a field w.VARIABLE-is now
+-- CONVERT: w.words-is is a field w.VARIABLE-is now
 pub loop-i-preserved : goal.loop-i-preserved
 loop-i-preserved c =
     let v = c.loop-i in
@@ -19,14 +19,14 @@ loop-i-preserved c =
       | then-has w ↦ (
         omega arith,
         omega arith,
-        omega (arith, w.1),
-        omega (arith, w.1, v.invariant.3, count-more a.node v.i a.count a.members.now (omega arith) (omega arith) (sym c.has.ensures ∙ w.if-has.true)),
+        omega (arith, w.words-is),
+        omega (arith, w.words-is, v.invariant.3, count-more a.node v.i a.count a.members.now (omega arith) (omega arith) (sym c.has.ensures ∙ w.if-has.true)),
       )
       | else-has w ↦ (
         omega arith,
         omega arith,
-        omega (arith, w.1),
-        omega (arith, w.1, v.invariant.3, count_same a.node v.i a.count a.members.now (omega arith) (omega arith) (sym c.has.ensures ∙ w.if-has.false)),
+        omega (arith, w.words-is),
+        omega (arith, w.words-is, v.invariant.3, count_same a.node v.i a.count a.members.now (omega arith) (omega arith) (sym c.has.ensures ∙ w.if-has.false)),
       )
     ]
 

@@ -26,7 +26,6 @@ returns-in_default c =
     let t = c.args.t.now in
     rw c.refused.ensures (let both = lists t c.requires.t_value c.args.out.now (refused (step-own-s-groups (length c.args.out.now) c.args.caller (here t)) c.caller_reason-reason.ensures (not_done c.caller_reason-reason.result c.in_default.not-Done)) in record { value = both.0; out_after = both.1 })
 
--- CONVERT: the goal is a record of count_in_bounds, count_le_group_limit now
 pub own_length-words-requires : goal.own_length-words-requires
 own_length-words-requires c = omega (arith, groups_few c.args.t.now c.requires.t_value, c.requires.t_len)
 

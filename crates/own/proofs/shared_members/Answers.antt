@@ -13,7 +13,7 @@ use Rattle.own.proofs.shared_members.Goals.{then-has, else-has}
 pub loop-i-init : goal.loop-i-init
 loop-i-init c = (omega arith, omega arith, sym (share-none c.args.node c.args.members.now))
 
--- CONVERT: w.1 is a field w.VARIABLE-is now
+-- CONVERT: w.all-is is a field w.VARIABLE-is now
 pub loop-i-preserved : goal.loop-i-preserved
 unfolding union
 loop-i-preserved c =
@@ -23,10 +23,10 @@ loop-i-preserved c =
       | then-has w ↦ (
         omega arith,
         omega arith,
-        w.1 ∙ ap (λ (x : ℕ). union x (get_or a.members.now v.i 0)) v.invariant.2
+        w.all-is ∙ ap (λ (x : ℕ). union x (get_or a.members.now v.i 0)) v.invariant.2
             ∙ share-more a.node v.i a.members.now (omega arith) (sym c.has.ensures ∙ w.if-has.true),
       )
-      | else-has w ↦ (omega arith, omega arith, w.1 ∙ v.invariant.2 ∙ share-same a.node v.i a.members.now (omega arith) (sym c.has.ensures ∙ w.if-has.false))
+      | else-has w ↦ (omega arith, omega arith, w.all-is ∙ v.invariant.2 ∙ share-same a.node v.i a.members.now (omega arith) (sym c.has.ensures ∙ w.if-has.false))
     ]
 
 pub returns : goal.returns

@@ -14,45 +14,41 @@ use Rattle.place.specs.declared.Access.TheVariants.{Member, Denied}
 use Rattle.place.proofs.place_for.Goals as goal
 
 pub overflow_add-at : goal.overflow_add-at
-overflow_add-at c = omega (
-  arith,
-  (let the : c.in-At.at < group_limit = let t = c.args.t.now in
-      omega (arith, groups_few t c.requires.t_value, seat-below t c.requires.t_value (sought-here t c.requires.t_value c.args.s _ (At c.in-At.at) c.place_of.ensures c.in-At.is)) in the),
-)
+overflow_add-at c =
+    let t = c.args.t.now in
+    let low : c.in-At.at < group_limit =
+    omega (arith, groups_few t c.requires.t_value, seat-below t c.requires.t_value (sought-here t c.requires.t_value c.args.s _ (At c.in-At.at) c.place_of.ensures c.in-At.is)) in
+    omega arith
 
 pub offset_bounds-t-at : goal.offset_bounds-t-at
-offset_bounds-t-at c = omega (
-  arith,
-  (let the : c.in-At.at < group_limit = let t = c.args.t.now in
-      omega (arith, groups_few t c.requires.t_value, seat-below t c.requires.t_value (sought-here t c.requires.t_value c.args.s _ (At c.in-At.at) c.place_of.ensures c.in-At.is)) in the),
-)
+offset_bounds-t-at c =
+    let t = c.args.t.now in
+    let low : c.in-At.at < group_limit =
+    omega (arith, groups_few t c.requires.t_value, seat-below t c.requires.t_value (sought-here t c.requires.t_value c.args.s _ (At c.in-At.at) c.place_of.ensures c.in-At.is)) in
+    omega arith
 
 pub bounds-t-at : goal.bounds-t-at
-bounds-t-at c = omega (
-  arith,
-  (let the : c.in-At.at < group_limit = let t = c.args.t.now in
-      omega (arith, groups_few t c.requires.t_value, seat-below t c.requires.t_value (sought-here t c.requires.t_value c.args.s _ (At c.in-At.at) c.place_of.ensures c.in-At.is)) in the),
-)
+bounds-t-at c =
+    let t = c.args.t.now in
+    let low : c.in-At.at < group_limit =
+    omega (arith, groups_few t c.requires.t_value, seat-below t c.requires.t_value (sought-here t c.requires.t_value c.args.s _ (At c.in-At.at) c.place_of.ensures c.in-At.is)) in
+    omega arith
 
 pub returns-then-has : goal.returns-then-has
-returns-then-has c = (let the : cond _ (Member at) (Denied NotMember) ≡ place_for p.args.node p.args.s (here p.args.t.now).groups = let t = c.args.t.now in
-    let at = c.in-At.at in
+returns-then-has c =
+    let t = c.args.t.now in
+    let low : c.in-At.at < group_limit =
+    omega (arith, groups_few t c.requires.t_value, seat-below t c.requires.t_value (sought-here t c.requires.t_value c.args.s _ (At c.in-At.at) c.place_of.ensures c.in-At.is)) in
     sym (ap (open_at c.args.node (here t).groups) (sym c.place_of.ensures ∙ c.in-At.is)
-    ∙ rw (
-      ← members-here t c.requires.t_value at ((let the : c.in-At.at < group_limit = let t = c.args.t.now in
-          omega (arith, groups_few t c.requires.t_value, seat-below t c.requires.t_value (sought-here t c.requires.t_value c.args.s _ (At c.in-At.at) c.place_of.ensures c.in-At.is)) in the)),
-      (sym c.has.ensures ∙ c.if-has.true),
-    )) in the)
+    ∙ rw (← members-here t c.requires.t_value c.in-At.at low, (sym c.has.ensures ∙ c.if-has.true)))
 
 pub returns-else-has : goal.returns-else-has
-returns-else-has c = (let the : cond _ (Member at) (Denied NotMember) ≡ place_for p.args.node p.args.s (here p.args.t.now).groups = let t = c.args.t.now in
-    let at = c.in-At.at in
+returns-else-has c =
+    let t = c.args.t.now in
+    let low : c.in-At.at < group_limit =
+    omega (arith, groups_few t c.requires.t_value, seat-below t c.requires.t_value (sought-here t c.requires.t_value c.args.s _ (At c.in-At.at) c.place_of.ensures c.in-At.is)) in
     sym (ap (open_at c.args.node (here t).groups) (sym c.place_of.ensures ∙ c.in-At.is)
-    ∙ rw (
-      ← members-here t c.requires.t_value at ((let the : c.in-At.at < group_limit = let t = c.args.t.now in
-          omega (arith, groups_few t c.requires.t_value, seat-below t c.requires.t_value (sought-here t c.requires.t_value c.args.s _ (At c.in-At.at) c.place_of.ensures c.in-At.is)) in the)),
-      (sym c.has.ensures ∙ c.if-has.false),
-    )) in the)
+    ∙ rw (← members-here t c.requires.t_value c.in-At.at low, (sym c.has.ensures ∙ c.if-has.false)))
 
 pub returns-in-Gap : goal.returns-in-Gap
 returns-in-Gap c =

@@ -22,6 +22,7 @@ returns-in_default c =
     (refused (step-send 0 c.args.caller (here c.args.t.now) c.args.p) c.host_reason-reason.ensures (not_done c.host_reason-reason.result c.in_default.not-Done)) in record { value = both.0; t_after = both.1 })
 
 pub connect_by-requires : goal.connect_by-requires
+unfolding state_of
 connect_by-requires c =
     let t = c.args.t.now in
     let d = (let a = c.args in host_done (get_or a.t.now 0 0) a.caller a.p (sym c.host_reason-reason.ensures ∙ c.in-Done.is)) in

@@ -25,14 +25,21 @@ returns-in_default c =
     (refused (step-send_at 0 a.caller (here a.t.now) a.node a.s a.n) c.asking_reason-reason.ensures (not_done c.asking_reason-reason.result c.in_default.not-Done)) in record { value = both.0; t_after = both.1 })
 
 pub connect_by-requires : goal.connect_by-requires
+unfolding state_of
 connect_by-requires c =
     let a = c.args in
-    let both = (let d = (let a = c.args in asking_done (get_or a.t.now 0 0) a.caller a.node a.s a.n (sym c.asking_reason-reason.ensures ∙ c.in-Done.is)) in (in-limit c.args.t.now c.requires.t_value d.0, in-limit c.args.t.now c.requires.t_value d.3)) in
+    let d = asking_done (get_or a.t.now 0 0) a.caller a.node a.s a.n (sym c.asking_reason-reason.ensures ∙ c.in-Done.is) in
+    let from = in-limit a.t.now c.requires.t_value d.0 in
+    let to = in-limit a.t.now c.requires.t_value d.3 in
     record { t_len = c.requires.t_len; caller_lt_node_limit = omega arith; way_lt_node_limit = omega arith; host_lt_node_limit = in-limit a.t.now c.requires.t_value (host-here a.t.now c.requires.t_value a.node a.s a.n _ ((ap looked_up (sym c.in-Found.is) ∙ c.look.ensures))) }
 
 pub connect-requires : goal.connect-requires
+unfolding state_of
 connect-requires c =
-    let both = (let d = (let a = c.args in asking_done (get_or a.t.now 0 0) a.caller a.node a.s a.n (sym c.asking_reason-reason.ensures ∙ c.in-Done.is)) in (in-limit c.args.t.now c.requires.t_value d.0, in-limit c.args.t.now c.requires.t_value d.3)) in
+    let a = c.args in
+    let d = asking_done (get_or a.t.now 0 0) a.caller a.node a.s a.n (sym c.asking_reason-reason.ensures ∙ c.in-Done.is) in
+    let from = in-limit a.t.now c.requires.t_value d.0 in
+    let to = in-limit a.t.now c.requires.t_value d.3 in
     record { t_len = c.requires.t_len; a_lt_node_limit = omega arith; b_lt_node_limit = omega arith }
 
 pub returns-in-Found : goal.returns-in-Found

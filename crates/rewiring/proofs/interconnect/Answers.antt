@@ -18,8 +18,6 @@ loop-left-smaller c =
     let some : 0 < at.left = omega arith in
     walk-less (meeting _) at.invariant some c.rest-left.ensures
 
--- CONVERT: w.3 is a field w.VARIABLE-is now
--- CONVERT: w.1 is a field w.VARIABLE-is now
 pub loop-left-preserved : goal.loop-left-preserved
 unfolding union
 loop-left-preserved c =
@@ -27,7 +25,7 @@ loop-left-preserved c =
     let some : 0 < at.left = omega arith in
     let node = c.lowest-node in
     let word = get_or at.links node.result 0 in
-    elim c.if-i-links.branch [ then-i-links w ↦ walk-store (meeting _) at.invariant some node.ensures c.rest-left.ensures (ap (union word) w.without.ensures) w.3 | else-i-links w ↦ walk-past (meeting _) at.invariant some node.ensures c.rest-left.ensures w.if-i-links.false w.1 ]
+    elim c.if-i-links.branch [ then-i-links w ↦ walk-store (meeting _) at.invariant some node.ensures c.rest-left.ensures (ap (union word) w.without.ensures) w.links-is | else-i-links w ↦ walk-past (meeting _) at.invariant some node.ensures c.rest-left.ensures w.if-i-links.false w.links-is ]
 
 pub returns : goal.returns
 unfolding interconnect

@@ -13,4 +13,4 @@ returns-then-is_sound c = record { value = c.step.ensures.value; table_after = c
 pub returns : goal.returns
 returns c =
     let a = c.args in
-    let both = steps-no_table a.caller a.command a.table.now a.out.now c.no_table.result (sym c.is_sound.ensures ∙ c.if-is_sound.false) c.no_table.ensures in record { value = both.0; table_after = both.1; out_after = both.2 }
+    let both = steps-no_table a.caller a.command a.table.now a.out.now c.no_table.result (sym c.is_sound.ensures ∙ c.if-is_sound.false) c.no_table.ensures in record { value = both.0; table_after = both.1.0; out_after = both.1.1 }

@@ -6,4 +6,4 @@ use Rattle.sgroup_c.proofs.sgroup_re_register_name.Goals as goal
 
 pub returns : goal.returns
 unfolding command_of form_of form_from forms
-returns c = let both = c.commanded.ensures _ refl in record { value = both.0; answer_after = both.1; table_after = both.2 }
+returns c = let both = c.commanded.ensures _ refl in record { value = both.0; answer_after = both.1.0; table_after = both.1.1 }

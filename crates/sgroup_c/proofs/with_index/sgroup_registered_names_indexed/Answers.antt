@@ -11,7 +11,7 @@ pub returns-then-answer-lt-ANSWER_WORDS : goal.returns-then-answer-lt-ANSWER_WOR
 unfolding told_indexed
 returns-then-answer-lt-ANSWER_WORDS c =
     let a = c.args in
-    let both = silent-list (indexed (length a.out.now) a.caller (RegisteredNames a.s) a.table.now a.index.now).given a.answer.now a.out.now a.table.now c.if-answer-lt-ANSWER_WORDS.true in record { value = both.0; answer_after = both.1; out_after = both.2 }
+    let both = silent-list (indexed (length a.out.now) a.caller (RegisteredNames a.s) a.table.now a.index.now).given a.answer.now a.out.now a.table.now c.if-answer-lt-ANSWER_WORDS.true in record { value = both.0; answer_after = both.1.0; out_after = both.1.1 }
 
 pub put-requires : goal.put-requires
 put-requires c = c.if-answer-lt-ANSWER_WORDS.false
@@ -20,4 +20,4 @@ pub returns : goal.returns
 unfolding told_indexed
 returns c =
     let a = c.args in
-    let both = tells-list (indexed (length a.out.now) a.caller (RegisteredNames a.s) a.table.now a.index.now).given a.answer.now a.out.now a.table.now c.if-answer-lt-ANSWER_WORDS.false (c.registered_names.ensures.value, c.registered_names.ensures.out_after) (c.put.ensures.value, c.put.ensures.run_after) in record { value = both.0; answer_after = both.1; out_after = both.2 }
+    let both = tells-list (indexed (length a.out.now) a.caller (RegisteredNames a.s) a.table.now a.index.now).given a.answer.now a.out.now a.table.now c.if-answer-lt-ANSWER_WORDS.false (c.registered_names.ensures.value, c.registered_names.ensures.out_after) (c.put.ensures.value, c.put.ensures.run_after) in record { value = both.0; answer_after = both.1.0; out_after = both.1.1 }

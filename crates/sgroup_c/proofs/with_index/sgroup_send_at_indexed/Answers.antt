@@ -6,4 +6,4 @@ use Rattle.sgroup_c.proofs.with_index.sgroup_send_at_indexed.Goals as goal
 
 pub returns : goal.returns
 unfolding command_of form_of form_from forms
-returns c = let both = c.commanded.ensures _ refl in record { value = both.0; answer_after = both.1; table_after = both.2; index_after = both.3 }
+returns c = let both = c.commanded.ensures _ refl in record { value = both.0; answer_after = both.1.0; table_after = both.1.1.0; index_after = both.1.1.1 }

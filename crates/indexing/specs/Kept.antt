@@ -22,7 +22,7 @@ use Rattle.indexes.specs.Index.{Row, walk, sorted, laid, index_of, index_of_tabl
 use Rattle.indexes.specs.Updates.{updated, update_of}
 use Rattle.indexes.specs.declared.Update.{Update}
 use Rattle.indexes.specs.Sorting.{length-sorted}
-use Rattle.indexes.specs.StepRows.{step-rows, step_count}
+use Rattle.indexes.proofs.StepRows.{step-rows, step_count}
 use Rattle.index_rows.specs.Filled.{Fills}
 use Rattle.index_rows.specs.Paired.{Paired, all_rows, index-long, index-fills}
 

@@ -32,7 +32,7 @@ use Rattle.plan.specs.Plan.{listed, all_listed, plan_words}
 use Rattle.plan.specs.Creatable.{number-high}
 use Rattle.plan.specs.Peopled.{kept-peopled}
 use Rattle.published.specs.Refusals.{Lowest}
-use Rattle.published.specs.LowestReason.{first-lowest}
+use Rattle.published.proofs.LowestReason.{first-lowest}
 use Rattle.launch.specs.Launch.{Launch, found, no_file, launch_tests, place_of_refusal, made, launch}
 use Rattle.launch.specs.Launches.{InOrder, opened-ok, words-make}
 use Rattle.launch.specs.TakenGroups.{taken-peopled}

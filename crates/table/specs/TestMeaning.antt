@@ -11,7 +11,7 @@ use Rattle.semantics.specs.Soundness.{size_of, hidden_of, count_of, name_of, mem
 use Rattle.semantics.specs.Truth.{unless}
 use Rattle.free_test.specs.WireTests.{all_below, all_zero, links_sound, free_sound}
 use Rattle.free_test.specs.Below.{tests, below-iff, within-iff}
-use Rattle.free_test.specs.WireTestMeaning.{SoundLinks, SoundFree, links_sound-iff, members_met-iff, free_sound-iff}
+use Rattle.free_test.proofs.WireTestMeaning.{SoundLinks, SoundFree, links_sound-iff, members_met-iff, free_sound-iff}
 use Rattle.groups_test.specs.GroupTests.{name_before, contents_right, members_right, part, links_part, free_part, met_right, names_right, head_right, unused_zero, grouped_in}
 use Rattle.groups_test.specs.GroupsBelow.{body-within}
 use Rattle.groups_test.specs.GroupMembers.{length_part, part-word, grouped-has, grouped_by}

@@ -5,8 +5,8 @@ use Rattle.std.proofs.Math.Seq.{take-append_seam}
 use Rattle.grammar.specs.File.{Group, taken, refused, outcome}
 use Rattle.grammar.specs.Place.{Shares, refused-place}
 use Rattle.spelling.specs.Spelling.{LaunchFile, groups_of, well_formed, Blank, spell}
-use Rattle.spelling.specs.Spelt.{spelt}
-use Rattle.spelling.specs.Converse.{taken_spelt}
+use Rattle.spelling.proofs.Spelt.{spelt}
+use Rattle.spelling.proofs.Converse.{taken_spelt}
 
 -- some launch file has the first n bytes of t
 unfoldable pub SomeFile : List ℕ → ℕ → Type 0

@@ -8,7 +8,7 @@ use Rattle.std.proofs.Math.Bool.{and-eq-true_iff}
 use Rattle.semantics.specs.Truth.{unless}
 use Rattle.published.specs.Published.{Set, ◌∖◌, nobody, FreeGroups, Published, Joined, RemoveNodes}
 use Rattle.published.specs.WellFormed.{free, WellFormed}
-use Rattle.published.specs.Classes.{normal-is}
+use Rattle.published.proofs.Classes.{normal-is}
 
 -- F is one of the free groups
 abbrev pub Among : FreeGroups → Set → Type 0

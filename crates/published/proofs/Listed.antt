@@ -14,8 +14,8 @@ use Rattle.entries.specs.Entries.{half_word}
 use Rattle.semantics.specs.Sizes.{group_names}
 use Rattle.published.specs.Published.{Set, Map, of_some}
 use Rattle.published.specs.Seen.{set_word, chained, name_words, group_words}
-use Rattle.published.specs.Concatenated.{in_turn}
-use Rattle.published.specs.GroupsSeen.{on_some}
+use Rattle.published.proofs.Concatenated.{in_turn}
+use Rattle.published.proofs.GroupsSeen.{on_some}
 
 -- ---- registered_names
 

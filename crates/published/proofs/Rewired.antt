@@ -10,7 +10,7 @@ use Rattle.semantics.specs.Steps.{interconnect, leave_free, one_free_group}
 use Rattle.semantics.specs.Members.{has-interconnect, has-leave_free, at-one_free_group}
 use Rattle.published.specs.Published.{Set, Map, of_some, ◌∪◌, ◌∖◌, only, nobody, SGroup, GrNames, Node, those, on_nodes, with_gr_names, InterConnectNodes, Joined}
 use Rattle.published.specs.Seen.{names_seen}
-use Rattle.published.specs.GroupsSeen.{on_some, free_seen, node_seen, nodes_seen}
+use Rattle.published.proofs.GroupsSeen.{on_some, free_seen, node_seen, nodes_seen}
 
 -- ---- connections
 

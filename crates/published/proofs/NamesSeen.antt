@@ -18,8 +18,8 @@ use Rattle.semantics.specs.Truth.{or_cases}
 use Rattle.published.specs.Published.{of_some, with_at, less_at, has_pid, less_hosted, OutputNs}
 use Rattle.published.specs.Seen as Seen
 use Rattle.published.specs.Seen.{how_many, chained}
-use Rattle.published.specs.SomeBelow.{any-hit, any-is}
-use Rattle.published.specs.Concatenated.{run_at, run_all, Between, from_zero, chained-keyed, run_all-one, length-chained, in_turn, count-chained}
+use Rattle.published.proofs.SomeBelow.{any-hit, any-is}
+use Rattle.published.proofs.Concatenated.{run_at, run_all, Between, from_zero, chained-keyed, run_all-one, length-chained, in_turn, count-chained}
 
 -- ---- one name
 

@@ -13,7 +13,7 @@ use Rattle.spelling.specs.Spelling.{bare, in_quotes, Atom, LaunchFile, groups_of
 use Rattle.spelling.specs.Spelling as Spelling
 use Rattle.spelling.specs.Course.{with_entry, Course, at_sign, at_atom, at_node, one_pair, no_pair, more_pairs, end_pairs, one_group, no_group, more_groups, end_groups, at_kind, more_nodes, end_nodes, value_atom, value_number, value_opens, first_value, first_closes, more_values, value_closes, pair_closes, at_stop}
 use Rattle.spelling.specs.Tests.{both, also}
-use Rattle.spelling.specs.Parsed.{course_parsed}
+use Rattle.spelling.proofs.Parsed.{course_parsed}
 
 -- ---- a text cut into tokens
 

@@ -20,14 +20,14 @@ use Rattle.semantics.specs.FreeGroupsOfNodes.{loose-on_roster, loose_in, own_fre
 use Rattle.semantics.specs.Changed.{regular-found}
 use Rattle.semantics.proofs.Freed.{touched-in, touched_out, regular-delete, regular-remove, regular-empty}
 use Rattle.published.specs.Published.{Set, Map, of_some, ◌∖◌, ◌∩◌, any, with_at, less_at, Namespace, SGroup, GrNames, Node, Published, those, with_gr_names, IsSGroupNode, InterConnectNodes, Joined, LessSGroupS, RemoveSGroup, left_none, leaving, less_hosted, less_members}
-use Rattle.published.specs.SeenState.{seen, published, names_seen}
-use Rattle.published.specs.SomeBelow.{any-hit, any-is, any-has}
-use Rattle.published.specs.GroupsSeen.{on_some, member, groups_seen, free_seen, hidden_seen, node_seen, nodes_seen, put-seen, drop-seen, members-seen}
-use Rattle.published.specs.NamesSeen.{drop_hosted-seen}
-use Rattle.published.specs.Rewired.{interconnect-seen, join-seen}
-use Rattle.published.specs.Joining.{name-low}
-use Rattle.published.specs.Parting.{left_names, names-left, left-last, in-or-left}
-use Rattle.published.specs.Merging.{to_NoGroup, new_hidden, new_normal, touching, merging, in_one, one-case}
+use Rattle.published.proofs.SeenState.{seen, published, names_seen}
+use Rattle.published.proofs.SomeBelow.{any-hit, any-is, any-has}
+use Rattle.published.proofs.GroupsSeen.{on_some, member, groups_seen, free_seen, hidden_seen, node_seen, nodes_seen, put-seen, drop-seen, members-seen}
+use Rattle.published.proofs.NamesSeen.{drop_hosted-seen}
+use Rattle.published.proofs.Rewired.{interconnect-seen, join-seen}
+use Rattle.published.proofs.Joining.{name-low}
+use Rattle.published.proofs.Parting.{left_names, names-left, left-last, in-or-left}
+use Rattle.published.proofs.Merging.{to_NoGroup, new_hidden, new_normal, touching, merging, in_one, one-case}
 
 -- ---- the state when nodes have become free
 

@@ -15,8 +15,8 @@ use Rattle.semantics.proofs.Agree.{test-regular, regular-test, sound-iff}
 use Rattle.semantics.specs.Asks.{Asks}
 use Rattle.semantics.proofs.Refused.{refused_links}
 use Rattle.published.specs.Published.{AddConnections}
-use Rattle.published.specs.SeenState.{seen_table, seen-sound, layout-seen}
-use Rattle.published.specs.ConnectRule.{connects}
+use Rattle.published.proofs.SeenState.{seen_table, seen-sound, layout-seen}
+use Rattle.published.proofs.ConnectRule.{connects}
 
 -- A refused call of node i that asks the node j: under the reasons of the input tests every word stays; under the later ones the table is sound, and
 -- its published state is the one before with the connection of i and j

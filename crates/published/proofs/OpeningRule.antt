@@ -24,9 +24,9 @@ use Rattle.answers.specs.declared.Value.TheVariants.{Ok}
 use Rattle.answers.specs.declared.Reason.{Reason}
 use Rattle.answers.specs.declared.Reason.TheVariants.{Done, TableLength, RosterSize, NodeUnknown}
 use Rattle.published.specs.Published.{Set, any, only, nobody, NoGroup, Names, Opening}
-use Rattle.published.specs.SeenState.{published, layout-seen}
+use Rattle.published.proofs.SeenState.{published, layout-seen}
 use Rattle.published.specs.Opens.{Opens}
-use Rattle.published.specs.SomeBelow.{any-no}
+use Rattle.published.proofs.SomeBelow.{any-no}
 
 zeros : (n i : ℕ) → ◌≡◌ {A = ℕ} (get_or (replicate n 0) i 0) 0
 zeros zero i = refl

@@ -24,11 +24,11 @@ use Rattle.semantics.specs.Changed.{regular-found}
 use Rattle.published.specs.Published as P
 use Rattle.published.specs.Published.{Set, Map, of_some, any, with_at, less_at, SGroup, Namespace, GrNames, NoGroup, Names, gives, with_group, transition}
 use Rattle.published.specs.Seen as Seen
-use Rattle.published.specs.SeenState.{seen, published}
-use Rattle.published.specs.Concatenated.{chained-none}
-use Rattle.published.specs.GroupsSeen.{on_some, member, groups_seen, free_seen, put-seen}
-use Rattle.published.specs.NamesSeen.{insert-seen, remove-seen, pid-seen, words-seen}
-use Rattle.published.specs.Follows.{Agrees, by-refusal, by_both, kept, by-member}
+use Rattle.published.proofs.SeenState.{seen, published}
+use Rattle.published.proofs.Concatenated.{chained-none}
+use Rattle.published.proofs.GroupsSeen.{on_some, member, groups_seen, free_seen, put-seen}
+use Rattle.published.proofs.NamesSeen.{insert-seen, remove-seen, pid-seen, words-seen}
+use Rattle.published.proofs.Follows.{Agrees, by-refusal, by_both, kept, by-member}
 
 -- ---- the namespace of an s_group is another
 

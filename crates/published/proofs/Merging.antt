@@ -12,9 +12,9 @@ use Rattle.semantics.specs.Sizes.{group_names}
 use Rattle.semantics.specs.Ranges.{held}
 use Rattle.semantics.specs.Truth.{unless}
 use Rattle.published.specs.Published.{Set, Map, of_some, ◌∪◌, nobody, any, GrNames, NoGroup, Names, Node, FreeGroups, Published, those, with_gr_names, with_free, InterConnectNodes, Joined, left_none, NewlyFree, FindFreeNormalGroups, MergeFreeNormalGroups, AddFreeNormalGroup, NewFreeNodes}
-use Rattle.published.specs.SomeBelow.{any_case, any_none, any-no}
-use Rattle.published.specs.GroupsSeen.{on_some, held-those}
-use Rattle.published.specs.Rewired.{interconnect-idle}
+use Rattle.published.proofs.SomeBelow.{any_case, any_none, any-no}
+use Rattle.published.proofs.GroupsSeen.{on_some, held-those}
+use Rattle.published.proofs.Rewired.{interconnect-idle}
 
 -- {} as NoGroup
 abbrev pub to_NoGroup : GrNames → GrNames

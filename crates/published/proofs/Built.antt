@@ -20,12 +20,12 @@ use Rattle.semantics.specs.Truth.{or_cases, unless}
 use Rattle.semantics.specs.FreeGroupsOfNodes.{has-free_nodes}
 use Rattle.semantics.proofs.Agree.{regular-test, sound-iff}
 use Rattle.published.specs.Published.{Set, of_some, SGroup, Namespace, Node, Published, those, IsSGroupNode}
-use Rattle.published.specs.SeenState.{seen, names_seen, published, set_word, chained, seen_table, layout-seen}
+use Rattle.published.proofs.SeenState.{seen, names_seen, published, set_word, chained, seen_table, layout-seen}
 use Rattle.published.specs.WellFormed.{connected, free, FairNamespace, WellFormed}
-use Rattle.published.specs.SomeBelow.{any_case}
-use Rattle.published.specs.Concatenated.{has_word, word_lt, word-has}
-use Rattle.published.specs.GroupsSeen.{on_some, held-those, groups_seen, nodes_seen, members-seen}
-use Rattle.published.specs.AscendingList.{gather, gather-ind, length-gather, looked, length-each, at_each}
+use Rattle.published.proofs.SomeBelow.{any_case}
+use Rattle.published.proofs.Concatenated.{has_word, word_lt, word-has}
+use Rattle.published.proofs.GroupsSeen.{on_some, held-those, groups_seen, nodes_seen, members-seen}
+use Rattle.published.proofs.AscendingList.{gather, gather-ind, length-gather, looked, length-each, at_each}
 
 -- ---- the entries of a namespace
 

@@ -9,9 +9,9 @@ use Rattle.semantics.specs.Sizes.{group_names}
 use Rattle.semantics.specs.Truth.{or_cases, unless}
 use Rattle.published.specs.Published.{Set, Map, any, SGroup, GrNames, NoGroup, Names, IsSGroupNode, LessSGroupS, left_none}
 use Rattle.published.specs.Seen.{names_seen}
-use Rattle.published.specs.SomeBelow.{any-hit, any_case, any_none, any-is}
-use Rattle.published.specs.GroupsSeen.{member}
-use Rattle.published.specs.Merging.{to_NoGroup}
+use Rattle.published.proofs.SomeBelow.{any-hit, any_case, any_none, any-is}
+use Rattle.published.proofs.GroupsSeen.{member}
+use Rattle.published.proofs.Merging.{to_NoGroup}
 
 module _ (grs grs' : Map SGroup) (s : ℕ) (nis : Set)
     (fewer : (i t : ℕ) → member i (grs' t) ≡ member i (grs t) && not (nis i && eqb s t)) (low : (i t : ℕ) → member i (grs t) ≡ true → t < group_names) where

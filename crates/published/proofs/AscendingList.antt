@@ -12,8 +12,8 @@ use Rattle.nodes.specs.Bools.{by_lt, by_eq}
 use Rattle.semantics.specs.Ranges.{held}
 use Rattle.published.specs.Published.{Map, of_some}
 use Rattle.published.specs.Seen.{how_many, chained}
-use Rattle.published.specs.Concatenated.{length-chained, in_turn, count-chained}
-use Rattle.published.specs.GroupsSeen.{on_some}
+use Rattle.published.proofs.Concatenated.{length-chained, in_turn, count-chained}
+use Rattle.published.proofs.GroupsSeen.{on_some}
 
 module _ {A B : Type 0} (make : ℕ → A → B) (m : Map A) where
   -- what m has at the n numbers from k on

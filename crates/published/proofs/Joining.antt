@@ -26,12 +26,12 @@ use Rattle.semantics.specs.Members.{in-word}
 use Rattle.semantics.specs.Changed.{regular-found, small-name}
 use Rattle.published.specs.Published as P
 use Rattle.published.specs.Published.{Set, Map, ◌∖◌, with_at, SGroup, Namespace, NoGroup, Names, IsSGroupNode, AddSGroupS, AddSGroup, gives, joining, transition}
-use Rattle.published.specs.SeenState.{seen, published, names_seen}
-use Rattle.published.specs.SomeBelow.{any-hit, any_case, any_none, any-is}
-use Rattle.published.specs.Concatenated.{word_of}
-use Rattle.published.specs.GroupsSeen.{on_some, member, groups_seen, hidden_seen, put-seen, add-seen}
-use Rattle.published.specs.Rewired.{interconnect-seen, regroup-seen, leave-seen}
-use Rattle.published.specs.Follows.{Agrees, by-refusal, kept, by-member}
+use Rattle.published.proofs.SeenState.{seen, published, names_seen}
+use Rattle.published.proofs.SomeBelow.{any-hit, any_case, any_none, any-is}
+use Rattle.published.proofs.Concatenated.{word_of}
+use Rattle.published.proofs.GroupsSeen.{on_some, member, groups_seen, hidden_seen, put-seen, add-seen}
+use Rattle.published.proofs.Rewired.{interconnect-seen, regroup-seen, leave-seen}
+use Rattle.published.proofs.Follows.{Agrees, by-refusal, kept, by-member}
 
 -- an s_group that has a member has its name in range
 pub name-low : {cap : ℕ} {st : State} → Regular cap st → (i s : ℕ) → member i (groups_seen st.groups s) ≡ true → s < group_names

@@ -30,13 +30,13 @@ use Rattle.semantics.specs.Within.{step-within}
 use Rattle.semantics.specs.Fits.{Fits}
 use Rattle.semantics.specs.Changed.{regular-found}
 use Rattle.published.specs.Published.{Set, of_some, any, SGroup, Namespace, gives, has_pid, transition}
-use Rattle.published.specs.SeenState.{seen, published, said, how_many}
+use Rattle.published.proofs.SeenState.{seen, published, said, how_many}
 use Rattle.published.specs.Refusals.{off_roster, strays, names_in, full, run_short, tests_set, tests_at, tests_host, tests, ruled, refusal}
-use Rattle.published.specs.SomeBelow.{any-beyond}
-use Rattle.published.specs.GroupsSeen.{on_some, member, groups_seen, roster-seen, count-groups}
-use Rattle.published.specs.NamesSeen.{pid-seen, count-names, words-seen}
-use Rattle.published.specs.OwnRules.{own_list-seen}
-use Rattle.published.specs.Follows.{Follows}
+use Rattle.published.proofs.SomeBelow.{any-beyond}
+use Rattle.published.proofs.GroupsSeen.{on_some, member, groups_seen, roster-seen, count-groups}
+use Rattle.published.proofs.NamesSeen.{pid-seen, count-names, words-seen}
+use Rattle.published.proofs.OwnRules.{own_list-seen}
+use Rattle.published.proofs.Follows.{Follows}
 
 -- ---- why a step answers as it does
 

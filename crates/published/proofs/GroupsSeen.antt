@@ -19,9 +19,9 @@ use Rattle.semantics.specs.Regular.{Every, Rising, RegularGroup}
 use Rattle.semantics.specs.Truth.{or_cases}
 use Rattle.semantics.specs.Groups.{found_name}
 use Rattle.published.specs.Published.{Set, Map, of_some, any, with_at, less_at, SGroup, Node, FreeGroups, those, IsSGroupNode}
-use Rattle.published.specs.SeenState.{seen, names_seen, how_many, chained}
-use Rattle.published.specs.SomeBelow.{any-hit, any-is}
-use Rattle.published.specs.Concatenated.{run_at, run_all, Between, from_zero, chained-keyed, run_all-one, length-chained, in_turn, count-chained}
+use Rattle.published.proofs.SeenState.{seen, names_seen, how_many, chained}
+use Rattle.published.proofs.SomeBelow.{any-hit, any-is}
+use Rattle.published.proofs.Concatenated.{run_at, run_all, Between, from_zero, chained-keyed, run_all-one, length-chained, in_turn, count-chained}
 
 -- ---- the parts of a published state
 

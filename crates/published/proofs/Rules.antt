@@ -21,14 +21,14 @@ use Rattle.semantics.proofs.Lookups.{host-asked}
 use Rattle.semantics.specs.Connected.{regular-connect, size-connect}
 use Rattle.published.specs.Published as P
 use Rattle.published.specs.Published.{of_some, FindName, found_by, then_send, AddConnections, transition}
-use Rattle.published.specs.SeenState.{seen, published, said, listed}
-use Rattle.published.specs.GroupsSeen.{on_some, member, groups_seen}
-use Rattle.published.specs.Follows.{Follows, Agrees, by-refusal, for-one}
-use Rattle.published.specs.NamingRules.{registers, re-registers, unregisters, looks-up, lists}
-use Rattle.published.specs.Joining.{adds, creates}
-use Rattle.published.specs.ConnectRule.{connects}
-use Rattle.published.specs.Leaving.{deletes, removes}
-use Rattle.published.specs.OwnRules.{own-said, own_list-seen}
+use Rattle.published.proofs.SeenState.{seen, published, said, listed}
+use Rattle.published.proofs.GroupsSeen.{on_some, member, groups_seen}
+use Rattle.published.proofs.Follows.{Follows, Agrees, by-refusal, for-one}
+use Rattle.published.proofs.NamingRules.{registers, re-registers, unregisters, looks-up, lists}
+use Rattle.published.proofs.Joining.{adds, creates}
+use Rattle.published.proofs.ConnectRule.{connects}
+use Rattle.published.proofs.Leaving.{deletes, removes}
+use Rattle.published.proofs.OwnRules.{own-said, own_list-seen}
 
 -- ---- the seven that name one s_group
 

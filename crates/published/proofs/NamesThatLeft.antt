@@ -21,10 +21,10 @@ use Rattle.semantics.specs.Asks.{lookup_here}
 use Rattle.semantics.specs.Call.{call}
 use Rattle.semantics.proofs.Calls.{calls-keep-sound}
 use Rattle.published.specs.Published.{Set, Map, of_some, ◌∖◌, ◌∩◌, any, with_at, less_at, SGroup, Published, IsSGroupSNode, FindName, MergeFreeNormalGroups, AddFreeNormalGroup, NewFreeNodes, True, Error, Undefined, Pid, gives, leaving, less_hosted, less_members, transition}
-use Rattle.published.specs.SomeBelow.{any-hit}
-use Rattle.published.specs.SeenState.{said, seen_table}
-use Rattle.published.specs.Exact.{accepted_call}
-use Rattle.published.specs.Strangers.{beside-a-pid}
+use Rattle.published.proofs.SomeBelow.{any-hit}
+use Rattle.published.proofs.SeenState.{said, seen_table}
+use Rattle.published.proofs.Exact.{accepted_call}
+use Rattle.published.proofs.Strangers.{beside-a-pid}
 
 -- ---- nodes that become free change no s_group
 

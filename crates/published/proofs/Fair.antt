@@ -25,14 +25,14 @@ use Rattle.semantics.specs.NamesKept.{host-found}
 use Rattle.semantics.specs.Changed.{regular-found, small-name}
 use Rattle.semantics.proofs.Agree.{test-regular, sound-iff}
 use Rattle.published.specs.Published.{SGroup, Namespace, Node, IsSGroupNode}
-use Rattle.published.specs.SeenState.{seen, names_seen, published, seen_table, seen-sound}
+use Rattle.published.proofs.SeenState.{seen, names_seen, published, seen_table, seen-sound}
 use Rattle.published.specs.WellFormed.{connected, free, FairNamespace, FairGroup, WellFormed}
-use Rattle.published.specs.SomeBelow.{any-has}
-use Rattle.published.specs.GroupsSeen.{on_some, roster-seen, groups_seen, node_seen, nothing_there, those-seen, count-groups}
-use Rattle.published.specs.NamesSeen.{count-names}
-use Rattle.published.specs.ConnectRule.{loose-is, connected-seen}
-use Rattle.published.specs.Determined.{table-determined}
-use Rattle.published.specs.Built.{table_of, table_sound, table-seen}
+use Rattle.published.proofs.SomeBelow.{any-has}
+use Rattle.published.proofs.GroupsSeen.{on_some, roster-seen, groups_seen, node_seen, nothing_there, those-seen, count-groups}
+use Rattle.published.proofs.NamesSeen.{count-names}
+use Rattle.published.proofs.ConnectRule.{loose-is, connected-seen}
+use Rattle.published.proofs.Determined.{table-determined}
+use Rattle.published.proofs.Built.{table_of, table_sound, table-seen}
 
 -- ---- namespaces
 

@@ -16,8 +16,8 @@ use Rattle.semantics.specs.Regular.{Regular}
 use Rattle.semantics.proofs.KeyPlaces.{same-found}
 use Rattle.semantics.proofs.Agree.{test-regular, same-state-same-table, sound-iff}
 use Rattle.published.specs.Published.{of_some, SGroup, Node, Published, those}
-use Rattle.published.specs.SeenState.{seen, published, chained, seen_table, mapped, seen-sound}
-use Rattle.published.specs.GroupsSeen.{groups_seen, node_seen, those-seen, gathered}
+use Rattle.published.proofs.SeenState.{seen, published, chained, seen_table, mapped, seen-sound}
+use Rattle.published.proofs.GroupsSeen.{groups_seen, node_seen, those-seen, gathered}
 
 module _ {cap : ℕ} (a b : State) (v : Regular cap a) (w : Regular cap b) (e : published a ≡ published b) where
   -- a test of a node of both

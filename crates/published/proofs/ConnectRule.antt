@@ -20,10 +20,10 @@ use Rattle.semantics.specs.Groups.{of-found}
 use Rattle.semantics.specs.Members.{in-word}
 use Rattle.semantics.specs.FreeGroupsOfNodes.{has-free_nodes, loose_in, own_free, not-loose, free-lt}
 use Rattle.published.specs.Published.{Set, Map, ◌∪◌, only, SGroup, Node, Published, those, with_free, IsSGroupSNode, IsSGroupNode, SameSGroup, Joined, InterConnectNodes, AddConnections}
-use Rattle.published.specs.SeenState.{seen, published}
-use Rattle.published.specs.SomeBelow.{any-hit, any_case}
-use Rattle.published.specs.GroupsSeen.{those-seen, on_some, member, groups_seen, free_seen, hidden_seen, nodes_seen, members-seen}
-use Rattle.published.specs.Rewired.{interconnect-idle, interconnect-seen, join-seen}
+use Rattle.published.proofs.SeenState.{seen, published}
+use Rattle.published.proofs.SomeBelow.{any-hit, any_case}
+use Rattle.published.proofs.GroupsSeen.{those-seen, on_some, member, groups_seen, free_seen, hidden_seen, nodes_seen, members-seen}
+use Rattle.published.proofs.Rewired.{interconnect-idle, interconnect-seen, join-seen}
 
 -- ---- free normal nodes
 

@@ -23,12 +23,12 @@ use Rattle.answers.specs.declared.Answer.{Answer}
 use Rattle.answers.specs.declared.Value.{Value}
 use Rattle.answers.specs.declared.Reason.{Reason}
 use Rattle.published.specs.Published.{Published, Step, gives, transition}
-use Rattle.published.specs.SeenState.{published, said, seen_table, seen-sound, layout-seen}
+use Rattle.published.proofs.SeenState.{published, said, seen_table, seen-sound, layout-seen}
 use Rattle.published.specs.Refusals.{tests, ruled, refusal, Answered, answer}
-use Rattle.published.specs.Follows.{Follows}
-use Rattle.published.specs.Rules.{agree}
-use Rattle.published.specs.Reasons.{Because, because}
-use Rattle.published.specs.Determined.{table-determined}
+use Rattle.published.proofs.Follows.{Follows}
+use Rattle.published.proofs.Rules.{agree}
+use Rattle.published.proofs.Reasons.{Because, because}
+use Rattle.published.proofs.Determined.{table-determined}
 
 -- ---- states
 

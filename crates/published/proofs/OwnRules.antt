@@ -22,11 +22,11 @@ use Rattle.semantics.specs.FreeGroupsOfNodes.{own_free, free-lt}
 use Rattle.semantics.specs.Changed.{regular-found}
 use Rattle.answers.specs.declared.Value.TheVariants.{Nodes}
 use Rattle.published.specs.Published.{Set, Map, of_some, any, only, SGroup, IsSGroupNode, SameSGroup, OwnSGroupNis, OwnGroupNis, OutputOwnSGroups, Nis}
-use Rattle.published.specs.SeenState.{seen, published, set_word, chained, group_words, said}
-use Rattle.published.specs.SomeBelow.{any_case, any_none}
-use Rattle.published.specs.Concatenated.{chained-none, run_all, word_of, count-has}
-use Rattle.published.specs.GroupsSeen.{on_some, member, groups_seen, in_found, unions-seen, chained-found}
-use Rattle.published.specs.ConnectRule.{in-groups, loose-is, empty-free}
+use Rattle.published.proofs.SeenState.{seen, published, set_word, chained, group_words, said}
+use Rattle.published.proofs.SomeBelow.{any_case, any_none}
+use Rattle.published.proofs.Concatenated.{chained-none, run_all, word_of, count-has}
+use Rattle.published.proofs.GroupsSeen.{on_some, member, groups_seen, in_found, unions-seen, chained-found}
+use Rattle.published.proofs.ConnectRule.{in-groups, loose-is, empty-free}
 
 -- ---- own_nodes
 

@@ -13,11 +13,11 @@ use Rattle.semantics.proofs.StepsKeep.{keeps}
 use Rattle.published.specs.Published.{of_some, SGroup, Node, Published, those, IsSGroupNode, IsFreeNormalNode, IsFreeHiddenNode}
 use Rattle.published.specs.Refusals.{Answered, answer}
 use Rattle.published.specs.WellFormed.{free, WellFormed}
-use Rattle.published.specs.SomeBelow.{any_case}
-use Rattle.published.specs.GroupsSeen.{member}
-use Rattle.published.specs.Exact.{exact}
-use Rattle.published.specs.Built.{built, built-regular, built-seen}
-use Rattle.published.specs.Fair.{fair}
+use Rattle.published.proofs.SomeBelow.{any_case}
+use Rattle.published.proofs.GroupsSeen.{member}
+use Rattle.published.proofs.Exact.{exact}
+use Rattle.published.proofs.Built.{built, built-regular, built-seen}
+use Rattle.published.proofs.Fair.{fair}
 
 module _ (X : Published) (wf : WellFormed X) where
   pub normal-is : (ni : ℕ) → IsFreeNormalNode ni X.fgs ≡ free false X ni

@@ -10,7 +10,7 @@ use Rattle.answers.specs.declared.Reason.TheVariants.{NodeUnknown, RunShort, Ind
 use Rattle.indexes.specs.IndexCalls.{misfit, no_table, no_index, opening_tests}
 use Rattle.published.specs.Published.{Published}
 use Rattle.published.specs.Refusals.{Lowest, tests}
-use Rattle.published.specs.LowestReason.{ranks, first-lowest}
+use Rattle.published.proofs.LowestReason.{ranks, first-lowest}
 
 -- before the step: 1, 3, 22
 pub index-lowest : (t x : List ℕ) → Lowest (no_index t x) (first (no_index t x))

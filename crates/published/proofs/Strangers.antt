@@ -29,10 +29,10 @@ use Rattle.semantics.specs.Call.{Call, call}
 use Rattle.semantics.proofs.Calls.{call-sound, calls-keep-sound}
 use Rattle.published.specs.Published as P
 use Rattle.published.specs.Published.{of_some, Published, SGroup, IsSGroupSNode, gives, joining, ◌∪◌, transition}
-use Rattle.published.specs.SeenState.{seen, published, said, seen_table, seen-sound}
-use Rattle.published.specs.GroupsSeen.{on_some, member}
+use Rattle.published.proofs.SeenState.{seen, published, said, seen_table, seen-sound}
+use Rattle.published.proofs.GroupsSeen.{on_some, member}
 use Rattle.published.specs.Refusals.{Answered, tests, answer}
-use Rattle.published.specs.Exact.{exact-call, accepted_call}
+use Rattle.published.proofs.Exact.{exact-call, accepted_call}
 
 -- the reason beside a pid tells whether its host is a member
 pub beside-outside : (x : Bool) → beside x ≡ HostOutside → x ≡ false

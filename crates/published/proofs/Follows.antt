@@ -14,9 +14,9 @@ use Rattle.answers.specs.declared.Reason.{Reason}
 use Rattle.answers.specs.declared.Reason.TheVariants.{GroupUnknown, NotMember}
 use Rattle.published.specs.Published as P
 use Rattle.published.specs.Published.{of_some, SGroup, Step, gives}
-use Rattle.published.specs.SeenState.{seen, published, said}
+use Rattle.published.proofs.SeenState.{seen, published, said}
 use Rattle.published.specs.Refusals.{ruled}
-use Rattle.published.specs.GroupsSeen.{on_some}
+use Rattle.published.proofs.GroupsSeen.{on_some}
 
 -- the same state, value and list
 pub record Follows (r : Result) (q : Step) : Type 0 where

@@ -11,7 +11,7 @@ use Rattle.std.proofs.Math.ListN.{get_or, drop, length-set, length-append, lengt
 use Rattle.std.proofs.Math.Seq.{get_or-set_same, get_or-set_other, get_or-append-add, get_or-drop}
 use Rattle.nodes.specs.Bools.{by_eq}
 use Rattle.nodes.specs.Sets.{has, with_node}
-use Rattle.nodes.specs.SetLaws.{has-with_node, has-below, below-pow}
+use Rattle.nodes.proofs.SetLaws.{has-with_node, has-below, below-pow}
 use Rattle.book_index.specs.Layout.{index_size, hint_count, mark_count, number_count, number_at, with_number, has_mark, with_mark, cleared}
 
 -- ---- a number

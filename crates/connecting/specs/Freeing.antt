@@ -9,15 +9,15 @@ use Rattle.std.proofs.lemmas.List.{length-map}
 use Rattle.std.proofs.Math.ListN.{get_or-append, get_or-eq_default}
 use Rattle.nodes.specs.Sets.{node_limit, has, empty, union, inter, diff, union_all, unions_at}
 use Rattle.nodes.specs.Bools.{by_lt, by_test, test-ext}
-use Rattle.nodes.specs.SetLaws.{has-inter, has_diff, has-none, has-ext, inter-none, diff-none, none-union}
-use Rattle.nodes.specs.Walk.{unions_at-in, unions_at_out}
+use Rattle.nodes.proofs.SetLaws.{has-inter, has_diff, has-none, has-ext, inter-none, diff-none, none-union}
+use Rattle.nodes.proofs.Walk.{unions_at-in, unions_at_out}
 use Rattle.semantics.specs.Sizes.{group_limit, members_at, links_at, free_at}
 use Rattle.semantics.specs.State.{Group, State, with_links, with_free, all_members}
 use Rattle.semantics.specs.Table.{sections}
 use Rattle.semantics.specs.Steps.{left, leave_free, merge, lot, touched, become_free}
 use Rattle.semantics.specs.Truth.{unless}
 use Rattle.semantics.specs.Members.{length-leave_free, getD-mapi}
-use Rattle.semantics.specs.Freed.{touched-in, touched_out}
+use Rattle.semantics.proofs.Freed.{touched-in, touched_out}
 use Rattle.semantics.specs.ThreeParts.{Cut}
 use Rattle.semantics.specs.Sections.{read, lent-in}
 use Rattle.semantics.specs.WordsOfState.{Sized, Laid, count-is, hidden-is, links-are, free-are}

@@ -5,7 +5,7 @@ use Rattle.std.proofs.Common.{sym, ◌∙◌, arith}
 use Rattle.std.proofs.Math.Bool.{and-eq-true_iff}
 use Rattle.std.proofs.lemmas.Bool.{false≢true, not-true}
 use Rattle.nodes.specs.Sets.{has}
-use Rattle.nodes.specs.SetLaws.{has-ext, has-none}
+use Rattle.nodes.proofs.SetLaws.{has-ext, has-none}
 use Rattle.semantics.specs.State.{Group, State, with_groups, free_of, all_members}
 use Rattle.semantics.specs.Regular.{Regular, loose}
 use Rattle.semantics.specs.Truth.{unless}

@@ -6,7 +6,7 @@ use Rattle.std.proofs.Math.Bool.{or-true, or-false, and-eq-true_iff}
 use Rattle.std.proofs.Math.Pow.{pow-lt}
 use Rattle.nodes.specs.Sets.{node_limit, has, empty, single, union, diff, with_node}
 use Rattle.nodes.specs.Bools.{by_eq, by_test}
-use Rattle.nodes.specs.SetLaws.{has-union, has-single, has-ext, union_comm, union_self, union-none, union-diff, diff-self, without_other, with_node-in, union-lt}
+use Rattle.nodes.proofs.SetLaws.{has-union, has-single, has-ext, union_comm, union_self, union-none, union-diff, diff-self, without_other, with_node-in, union-lt}
 use Rattle.semantics.specs.Sizes.{links_at, free_at}
 use Rattle.semantics.specs.State.{State, with_links, with_free, free_of}
 use Rattle.semantics.specs.Table.{sections}

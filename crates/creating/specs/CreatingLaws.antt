@@ -7,8 +7,8 @@ use Rattle.pairs.specs.Woven.{woven}
 use Rattle.semantics.specs.Sizes.{names_per_group}
 use Rattle.semantics.specs.Test.{sound}
 use Rattle.semantics.specs.Call.{call}
-use Rattle.semantics.specs.Calls.{calls-keep-sound}
-use Rattle.semantics.specs.Agree.{sound-iff}
+use Rattle.semantics.proofs.Calls.{calls-keep-sound}
+use Rattle.semantics.proofs.Agree.{sound-iff}
 use Rattle.commands.specs.declared.Command.TheVariants.{NewSGroup}
 use Rattle.creating.specs.Creating.{created}
 

@@ -10,8 +10,8 @@ use Rattle.std.proofs.Math.ListN.{length}
 use borrow.Author.Tests.{eqb-false, eq-eqb, leb-false, lt-leb, not-true}
 use Rattle.nodes.specs.Sets.{node_limit, has, empty, beyond, lowest}
 use Rattle.nodes.specs.Bools.{by_test}
-use Rattle.nodes.specs.SetLaws.{has-below}
-use Rattle.nodes.specs.LowestNode.{lowest-has}
+use Rattle.nodes.proofs.SetLaws.{has-below}
+use Rattle.nodes.proofs.LowestNode.{lowest-has}
 use Rattle.semantics.specs.Sizes.{group_limit, group_names, names_per_group}
 use Rattle.semantics.specs.Ranges.{bad_group}
 use Rattle.semantics.specs.Truth.{neither}
@@ -23,10 +23,10 @@ use Rattle.semantics.specs.Regular.{Regular}
 use Rattle.semantics.specs.Changed.{regular-create}
 use Rattle.semantics.specs.Effects.{find-apply-other, size-apply, length-apply}
 use Rattle.semantics.specs.WordsOfState.{laid}
-use Rattle.semantics.specs.RoundTrip.{round_trip, state-back}
-use Rattle.semantics.specs.Agree.{test-regular, regular-test, sound-iff}
+use Rattle.semantics.proofs.RoundTrip.{round_trip, state-back}
+use Rattle.semantics.proofs.Agree.{test-regular, regular-test, sound-iff}
 use Rattle.semantics.specs.Call.{Call, written, call, opening}
-use Rattle.semantics.specs.Calls.{call-sound, opening-gives-sound}
+use Rattle.semantics.proofs.Calls.{call-sound, opening-gives-sound}
 use Rattle.commands.specs.declared.Command.TheVariants.{NewSGroup}
 use Rattle.answers.specs.Answers.{refuses, answer_of}
 use Rattle.answers.specs.declared.Value.TheVariants.{Ok, Grouped}

@@ -6,7 +6,7 @@ use Rattle.std.specs.Bool.{beq}
 use Rattle.std.proofs.Math.Bool.{and-eq-true_iff}
 use Rattle.std.proofs.lemmas.Bool.{not-true, lt-leb}
 use Rattle.nodes.specs.Sets.{node_limit, has, beyond, word_at}
-use Rattle.nodes.specs.SetLaws.{has-below, below-pow}
+use Rattle.nodes.proofs.SetLaws.{has-below, below-pow}
 use Rattle.free_test.specs.WireTests.{all_below, all_of, all_zero}
 
 -- ---- for a loop

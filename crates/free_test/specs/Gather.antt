@@ -1,13 +1,13 @@
 -- A loop that gathers by `|` what fails: nothing is gathered where every turn passes; and a walk over the members of a set. Assumes nothing.
-use Rattle.std.specs.Prelude.{◌≡◌, Bool, true, not, ◌&&◌, ℕ, ◌+◌, ◌-◌, ◌^◌, ◌<◌, eqb}
+use Rattle.std.specs.Prelude.{◌≡◌, Bool, true, not, ◌&&◌, ℕ, ◌+◌, ◌^◌, ◌<◌, eqb}
 use Rattle.std.proofs.Common.{sym, ap, ap₂, ◌∙◌, ⊎_elim, true≢false, arith, eqb-true, eq-eqb, ne_eqb}
 use Rattle.std.proofs.Math.Bool.{and-true, and_assoc, and-eq-true_iff}
 use Rattle.std.specs.Int.Bits.{bit_or, bit_xor, or_add_and, xor_add_and, xor_self}
 use Rattle.std.proofs.lemmas.Nat.{and_le_l, and_le_r}
 use Rattle.nodes.specs.Sets.{node_limit, has, empty, union, lowest, rest}
 use Rattle.nodes.specs.Bools.{by_eq, test-ext}
-use Rattle.nodes.specs.SetLaws.{has-none, has-without_node}
-use Rattle.nodes.specs.LowestNode.{lowest-lt, lowest-has}
+use Rattle.nodes.proofs.SetLaws.{has-none, has-without_node}
+use Rattle.nodes.proofs.LowestNode.{lowest-lt, lowest-has}
 use Rattle.free_test.specs.WireTests.{all_below, all_of}
 use Rattle.free_test.specs.Below.{below_step, of_iff}
 

@@ -4,7 +4,7 @@ use Rattle.std.proofs.Common.{sym, ap, ◌∙◌, subst, ⊎_elim, arith, get_or
 use Rattle.std.proofs.Math.Bool.{and-eq-true_iff}
 use Rattle.nodes.specs.Sets.{node_limit, has, empty, single, union, inter, diff, subset, without_node, lowest, rest, word_at}
 use Rattle.nodes.specs.Bools.{by_lt, test-ext}
-use Rattle.nodes.specs.SetLaws.{union_comm, diff-diff, subset-diff, subset-trans, has-subset, subset-has, has-inter, inter-subset-l, inter-subset-r}
+use Rattle.nodes.proofs.SetLaws.{union_comm, diff-diff, subset-diff, subset-trans, has-subset, subset-has, has-inter, inter-subset-l, inter-subset-r}
 use Rattle.free_test.specs.WireTests.{all_of, others_met, members_met}
 use Rattle.free_test.specs.Below.{below-ext}
 use Rattle.free_test.specs.Gather.{turn}

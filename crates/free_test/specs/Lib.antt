@@ -3,4 +3,3 @@ pub mod Below
 pub mod Gather
 pub mod Knowing
 pub mod Loose
-pub mod WireTestMeaning

@@ -4,8 +4,8 @@ use Rattle.std.proofs.Common.{sym, ap, ◌∙◌, ⊎_elim, true≢false, arith,
 use Rattle.std.proofs.Math.ListN.{get_or-eq_default}
 use Rattle.nodes.specs.Sets.{node_limit, has, lowest, word_at}
 use Rattle.nodes.specs.Bools.{by_lt, by_test, test-ext}
-use Rattle.nodes.specs.SetLaws.{has-none}
-use Rattle.nodes.specs.LowestNode.{lowest-none}
+use Rattle.nodes.proofs.SetLaws.{has-none}
+use Rattle.nodes.proofs.LowestNode.{lowest-none}
 use Rattle.semantics.specs.Soundness.{In}
 use Rattle.semantics.specs.Test.{freely}
 use Rattle.free_test.specs.WireTests.{all_of, all_zero, own_free, is_lowest, own_lowest}

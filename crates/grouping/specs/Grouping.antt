@@ -5,7 +5,7 @@ use Rattle.std.proofs.Math.Path.{ap}
 use Rattle.std.proofs.Math.Bool.{or-true, and-eq-true_iff}
 use mathlib.Core.List.{List, ◌∷◌, ◌++◌}
 use Rattle.nodes.specs.Sets.{has, empty, union, inter, diff}
-use Rattle.nodes.specs.SetLaws.{has_diff, subset-diff}
+use Rattle.nodes.proofs.SetLaws.{has_diff, subset-diff}
 use Rattle.entries.specs.Entries.{Entry, drop_hosted}
 use Rattle.semantics.specs.Sizes.{group_limit, names_per_group, members_at}
 use Rattle.semantics.specs.State.{Group, State, with_groups, with_links, with_free, find, put, drop_group, all_members}

@@ -3,7 +3,7 @@ use Rattle.std.specs.Prelude.{◌≡◌, refl, Bool, true, not, ◌&&◌, cond, 
 use Rattle.std.proofs.Common.{sym, ap, ◌∙◌, arith, length-drop, get_or-take, get_or-drop, length-take-le}
 use Rattle.nodes.specs.Sets.{has, empty, beyond, union, union_all, word_at}
 use Rattle.nodes.specs.Bools.{test-ext}
-use Rattle.nodes.specs.SetLaws.{union_all-in, union_all_out, union_all-take}
+use Rattle.nodes.proofs.SetLaws.{union_all-in, union_all_out, union_all-take}
 use Rattle.semantics.specs.Sizes.{group_limit, members_at, links_at, bodies_at}
 use Rattle.semantics.specs.Soundness.{name_of, names_of, members_of}
 use Rattle.free_test.specs.WireTests.{all_below}

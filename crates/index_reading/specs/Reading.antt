@@ -13,12 +13,11 @@ use Rattle.answers.specs.declared.Value.TheVariants.{Listed}
 use Rattle.answers.specs.declared.Reason.TheVariants.{Done, NodeUnknown, RunShort}
 use Rattle.semantics.specs.Sizes.{group_names, names_per_group, table_words, row_words}
 use Rattle.semantics.specs.Table.{state_of}
-use Rattle.semantics.specs.Test.{sound}
 use Rattle.semantics.specs.TestLaws.{same-iff}
 use Rattle.semantics.specs.Soundness.{size_of}
 use Rattle.semantics.specs.WordsOfState.{size_is}
 use Rattle.semantics.specs.FirstReason.{Test, first}
-use Rattle.semantics.specs.Agree.{test-regular, test-laid}
+use Rattle.semantics.proofs.Agree.{test-regular, test-laid}
 use Rattle.semantics.specs.Call.{refused}
 use Rattle.indexes.specs.Index.{Row, key_of, pid_of, walk, sorted, flat, keep, named, index_of_table, names_of}
 use Rattle.indexes.specs.Ascending.{rank}

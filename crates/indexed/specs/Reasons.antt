@@ -9,7 +9,7 @@ use Rattle.semantics.specs.Sizes.{names_per_group, table_words, index_words}
 use Rattle.semantics.specs.Test.{same, sound}
 use Rattle.semantics.specs.TestLaws.{same-iff}
 use Rattle.semantics.specs.Truth.{unless}
-use Rattle.semantics.specs.Agree.{test-regular}
+use Rattle.semantics.proofs.Agree.{test-regular}
 use Rattle.semantics.specs.FirstReason.{first}
 use Rattle.semantics.specs.Call.{Call, call, listed_over}
 use Rattle.inputs.specs.Judge.{is_done}

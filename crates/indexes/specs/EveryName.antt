@@ -13,7 +13,7 @@ use Rattle.semantics.specs.State.{Group, State, find}
 use Rattle.semantics.specs.Table.{state_of}
 use Rattle.semantics.specs.Test.{sound}
 use Rattle.semantics.specs.Regular.{Every, Rising, RegularGroup, Regular}
-use Rattle.semantics.specs.Agree.{test-regular}
+use Rattle.semantics.proofs.Agree.{test-regular}
 use Rattle.indexes.specs.Index.{Row, key_of, group_of, rows, walk, sorted}
 use Rattle.indexes.specs.Ascending.{holds}
 use Rattle.indexes.specs.Updates.{pid_in}

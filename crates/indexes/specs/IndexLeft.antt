@@ -8,7 +8,7 @@ use Rattle.answers.specs.Answers.{refuses}
 use Rattle.commands.specs.declared.Command.{Command}
 use Rattle.semantics.specs.Sizes.{names_per_group, table_words, index_words}
 use Rattle.semantics.specs.Steps as Steps
-use Rattle.semantics.specs.RoundTrip.{round_trip}
+use Rattle.semantics.proofs.RoundTrip.{round_trip}
 use Rattle.semantics.specs.OpenedRegular.{opened-regular}
 use Rattle.semantics.specs.Truth.{neither}
 use Rattle.semantics.specs.FirstReason.{first}

@@ -13,5 +13,4 @@ pub mod Flat
 pub mod WalkLaws
 pub mod Room
 pub mod WalkWords
-pub mod StepRows
 pub mod TestLaws

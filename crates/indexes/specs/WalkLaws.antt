@@ -9,7 +9,7 @@ use Rattle.std.proofs.Math.Seq.{append_snoc}
 use Rattle.std.proofs.lemmas.Bool.{eqb-false}
 use Rattle.nodes.specs.Sets.{node_limit, has}
 use Rattle.nodes.specs.Bools.{by_test, by_eq, by_lt}
-use Rattle.nodes.specs.SetLaws.{has-roster}
+use Rattle.nodes.proofs.SetLaws.{has-roster}
 use Rattle.entries.specs.Entries.{Entry, half_word, host, insert, remove, lookup, holds_pid, drop_hosted}
 use Rattle.entries.specs.NamespaceSound as Namespace
 use Rattle.entries.specs.EntryLaws.{held_or_not, holds_pid-lookup}

@@ -13,9 +13,9 @@ use Rattle.semantics.specs.Places.{no_group, group_at}
 use Rattle.semantics.specs.EntryPlaces.{words_at}
 use Rattle.semantics.specs.Bodies.{own_at, body_end}
 use Rattle.semantics.specs.WordByWord.{Reads, reads}
-use Rattle.semantics.specs.WordsMeaning.{Means, counted-regular, regular-means}
+use Rattle.semantics.proofs.WordsMeaning.{Means, counted-regular, regular-means}
 use Rattle.semantics.specs.WordsOfState.{length-of}
-use Rattle.semantics.specs.Agree.{test-regular, test-laid}
+use Rattle.semantics.proofs.Agree.{test-regular, test-laid}
 use Rattle.indexes.specs.Index.{rows, walk}
 use Rattle.indexes.specs.Ascending.{Distinct}
 use Rattle.indexes.specs.WalkLaws.{walk-append, length-rows, length-walk-fits, distinct-behind, walk-distinct}

@@ -12,17 +12,17 @@ use Rattle.semantics.specs.Table.{state_of}
 use Rattle.semantics.specs.Test.{sound}
 use Rattle.semantics.specs.Steps.{step}
 use Rattle.semantics.specs.Call.{Call, call}
-use Rattle.semantics.specs.Calls.{call-sound}
+use Rattle.semantics.proofs.Calls.{call-sound}
 use Rattle.semantics.specs.Fits.{Fits}
 use Rattle.semantics.specs.Regular.{Regular}
-use Rattle.semantics.specs.RoundTrip.{round_trip}
-use Rattle.semantics.specs.StepsKeep.{keeps}
-use Rattle.semantics.specs.Agree.{test-regular}
+use Rattle.semantics.proofs.RoundTrip.{round_trip}
+use Rattle.semantics.proofs.StepsKeep.{keeps}
+use Rattle.semantics.proofs.Agree.{test-regular}
 use Rattle.indexes.specs.Index.{Row, walk, sorted, laid, index_of, index_of_table}
 use Rattle.indexes.specs.Updates.{updated, update_of}
 use Rattle.indexes.specs.declared.Update.{Update}
 use Rattle.indexes.specs.Sorting.{length-sorted}
-use Rattle.indexes.specs.StepRows.{step-rows, step_count}
+use Rattle.indexes.proofs.StepRows.{step-rows, step_count}
 use Rattle.index_rows.specs.Filled.{Fills}
 use Rattle.index_rows.specs.Paired.{Paired, all_rows, index-long, index-fills}
 

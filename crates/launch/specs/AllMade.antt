@@ -19,7 +19,7 @@ use Rattle.semantics.specs.Truth.{neither}
 use Rattle.semantics.specs.FirstReason.{first}
 use Rattle.semantics.specs.Soundness.{Sound}
 use Rattle.semantics.specs.Call.{opening}
-use Rattle.semantics.specs.Calls.{calls-keep-sound, opening-gives-sound}
+use Rattle.semantics.proofs.Calls.{calls-keep-sound, opening-gives-sound}
 use Rattle.semantics.specs.State as State
 use Rattle.semantics.specs.Table.{state_of}
 use Rattle.creating.specs.Creations.{makeable, EachMade, AllThere}
@@ -32,7 +32,7 @@ use Rattle.plan.specs.Plan.{listed, all_listed, plan_words}
 use Rattle.plan.specs.Creatable.{number-high}
 use Rattle.plan.specs.Peopled.{kept-peopled}
 use Rattle.published.specs.Refusals.{Lowest}
-use Rattle.published.specs.LowestReason.{first-lowest}
+use Rattle.published.proofs.LowestReason.{first-lowest}
 use Rattle.launch.specs.Launch.{Launch, found, no_file, launch_tests, place_of_refusal, made, launch}
 use Rattle.launch.specs.Launches.{InOrder, opened-ok, words-make}
 use Rattle.launch.specs.TakenGroups.{taken-peopled}

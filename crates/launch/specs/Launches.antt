@@ -14,8 +14,8 @@ use Rattle.answers.specs.declared.Reason.TheVariants.{Done, TableLength, RosterS
 use Rattle.semantics.specs.Sizes.{group_limit, names_per_group, table_words}
 use Rattle.semantics.specs.FirstReason.{Test, ◌when◌, first}
 use Rattle.semantics.specs.Call.{opening}
-use Rattle.semantics.specs.Calls.{opening-gives-sound}
-use Rattle.semantics.specs.Agree.{sound-iff}
+use Rattle.semantics.proofs.Calls.{opening-gives-sound}
+use Rattle.semantics.proofs.Agree.{sound-iff}
 use Rattle.semantics.specs.Test.{sound}
 use Rattle.pairs.specs.Woven.{woven, woven-take}
 use Rattle.creating.specs.Creating.{created}

@@ -8,7 +8,7 @@ use Rattle.std.proofs.Math.ListN.{get_or}
 use Rattle.std.proofs.Math.Pow.{pow_pos, pow-lt}
 use borrow.Author.Tests.{ltb-true, lt-leb, ne_eqb, not-true}
 use Rattle.nodes.specs.Sets.{node_limit, single, with_node}
-use Rattle.nodes.specs.SetLaws.{with_node-in, union-lt, subset-le, subset-union, subset-union-r}
+use Rattle.nodes.proofs.SetLaws.{with_node-in, union-lt, subset-le, subset-union, subset-union-r}
 use Rattle.semantics.specs.Sizes.{group_names}
 use Rattle.semantics.specs.Ranges.{bad_group}
 use Rattle.tokens.specs.Reserved.{same, among}

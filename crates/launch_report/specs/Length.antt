@@ -14,7 +14,7 @@ use Rattle.semantics.specs.Sizes.{group_limit, names_per_group}
 use Rattle.semantics.specs.State.{Group}
 use Rattle.semantics.specs.Table.{state_of}
 use Rattle.semantics.specs.Test.{sound}
-use Rattle.semantics.specs.Agree.{test-regular}
+use Rattle.semantics.proofs.Agree.{test-regular}
 use Rattle.print.specs.Printed.{decimal}
 use Rattle.print.specs.Decimals.{decimal-few}
 use Rattle.book.specs.Book.{longest_atom, group_atoms, lines, ended, all_atoms, distinct, fit}

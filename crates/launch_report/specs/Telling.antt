@@ -6,14 +6,14 @@ use Rattle.std.proofs.Math.ListN.{get_or}
 use Rattle.std.proofs.Math.Seq.{drop-cons, take-length}
 use Rattle.nodes.specs.NodeSets.{node_limit, has}
 use Rattle.nodes.specs.Sets.{union_all, some_has}
-use Rattle.nodes.specs.SetLaws.{has_union_all}
+use Rattle.nodes.proofs.SetLaws.{has_union_all}
 use Rattle.text.specs.Text.{bytes}
 use Rattle.semantics.specs.Sizes.{group_limit, group_names, names_per_group, contents_at, members_at, bodies_at, table_words}
 use Rattle.semantics.specs.State.{Group}
 use Rattle.semantics.specs.Table.{groups_of, state_of}
 use Rattle.semantics.specs.Test.{sound}
 use Rattle.semantics.specs.WordsOfState.{count-is, length-of}
-use Rattle.semantics.specs.Agree.{test-regular, test-laid}
+use Rattle.semantics.proofs.Agree.{test-regular, test-laid}
 use Rattle.book.specs.Book.{lines}
 use Rattle.print.specs.Printed.{decimal}
 use Rattle.print.specs.Sheets.{Sheet, put}

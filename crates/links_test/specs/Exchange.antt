@@ -17,7 +17,7 @@ use Rattle.std.proofs.Math.ListN.{length-set}
 use Rattle.std.proofs.Math.Seq.{get_or-set_same, get_or-set_other}
 use Rattle.nodes.specs.Sets.{node_limit, has, roster, inter, word_at}
 use Rattle.nodes.specs.Bools.{by_lt}
-use Rattle.nodes.specs.SetLaws.{has-inter, has-roster}
+use Rattle.nodes.proofs.SetLaws.{has-inter, has-roster}
 use Rattle.free_test.specs.WireTests.{all_below}
 use Rattle.free_test.specs.Below.{below-iff, beq-iff}
 use Rattle.links_test.specs.Mutual.{even, even-xor}

@@ -1,13 +1,13 @@
 -- The tests of connections: what lies outside a node's due, and what is not mutual, pair by pair. Assumes nothing.
-use Rattle.std.specs.Prelude.{◌≡◌, refl, ◌⊎◌, Bool, true, false, not, ◌&&◌, List, ℕ, zero, suc, ◌+◌, ◌-◌, ◌/◌, ◌%◌, ◌^◌, ◌≤◌, ◌<◌, eqb, length, drop}
+use Rattle.std.specs.Prelude.{◌≡◌, refl, Bool, true, false, not, ◌&&◌, List, ℕ, zero, suc, ◌+◌, ◌-◌, ◌/◌, ◌%◌, ◌^◌, ◌≤◌, ◌<◌, eqb, length, drop}
 use Rattle.std.proofs.Common.{sym, ap, ap₂, ◌∙◌, ⊎_elim, eq-or-lt_of_le, arith, pow_pos, pow_mono, eqb-true, eq-eqb, ne_eqb}
 use Rattle.std.specs.Bool.{beq}
 use Rattle.std.proofs.Math.Bool.{and-eq-true_iff}
 use Rattle.std.specs.Int.Bits.{bit_or, bit_xor, differ, or_step, xor_step}
 use Rattle.nodes.specs.Sets.{node_limit, has, empty, single, roster, union, inter, diff, beyond, word_at}
 use Rattle.nodes.specs.Bools.{by_test, by_lt, test-ext}
-use Rattle.nodes.specs.SetLaws.{inter-union, inter-single-in, inter-single-out, subset-diff, beyond-roster, has_above, has-none, below-pow}
-use Rattle.nodes.specs.Words.{inter-not}
+use Rattle.nodes.proofs.SetLaws.{inter-union, inter-single-in, inter-single-out, subset-diff, beyond-roster, has_above, has-none, below-pow}
+use Rattle.nodes.proofs.Words.{inter-not}
 use Rattle.semantics.specs.Test.{linked}
 use Rattle.free_test.specs.WireTests.{all_below, all_zero, own_linked, both_ways, own_mutual}
 use Rattle.free_test.specs.Below.{below_step, tests, tail-iff, within-iff}

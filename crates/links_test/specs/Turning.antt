@@ -4,7 +4,7 @@ use Rattle.std.specs.Prelude.{◌≡◌, refl, ◌⊎◌, Bool, true, ◌&&◌, 
 use Rattle.std.proofs.Common.{sym, ap, ap₂, ◌∙◌, inl, inr, ⊎_elim, arith, length-set, get_or-set_same, get_or-set_other}
 use Rattle.nodes.specs.Sets.{node_limit, has, word_at}
 use Rattle.nodes.specs.Bools.{by_lt, test-ext}
-use Rattle.nodes.specs.SetLaws.{has_above, has-ext}
+use Rattle.nodes.proofs.SetLaws.{has_above, has-ext}
 use Rattle.free_test.specs.WireTests.{all_below, both_ways, own_mutual}
 use Rattle.free_test.specs.Below.{eqb-iff, tests}
 use Rattle.links_test.specs.Exchange.{unit_rows, place, placed, Half, Exchanged}

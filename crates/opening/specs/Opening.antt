@@ -4,7 +4,7 @@ use Rattle.std.proofs.Common.{sym, ap, ap₂, ◌∙◌, subst, le_refl, lit<, l
 use native.Mathlib.Omega.{arith}
 use borrow.Author.Tests.{eq-eqb, ne_eqb, lt-ltb, le-ltb}
 use Rattle.nodes.specs.Sets.{node_limit, has, single, roster, diff, beyond, with_node}
-use Rattle.nodes.specs.SetLaws.{has_diff, has-roster, none-union}
+use Rattle.nodes.proofs.SetLaws.{has_diff, has-roster, none-union}
 use Rattle.semantics.specs.Sizes.{group_limit, names_per_group, contents_at, free_at, bodies_at, table_words}
 use Rattle.answers.specs.Answers.{answer_of}
 use Rattle.semantics.specs.Steps.{mapi, each_alone, opened}

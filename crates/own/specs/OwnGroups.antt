@@ -5,7 +5,7 @@ use Rattle.std.proofs.lemmas.List.{length-map}
 use Rattle.std.proofs.Math.ListN.{get_or-map}
 use Rattle.nodes.specs.Sets.{node_limit, has, single, union, union_all}
 use Rattle.nodes.specs.Bools.{by_test}
-use Rattle.nodes.specs.SetLaws.{union-none, union_all-take}
+use Rattle.nodes.proofs.SetLaws.{union-none, union_all-take}
 use Rattle.entries.specs.Pass.{pass-write}
 use Rattle.semantics.specs.Sizes.{group_limit, group_names, names_per_group, contents_at, members_at, free_at}
 use Rattle.semantics.specs.State.{Group, State, free_of}

@@ -9,7 +9,7 @@ use Rattle.semantics.specs.Test.{sound}
 use Rattle.semantics.specs.Regular.{Regular}
 use Rattle.semantics.specs.Places.{group_at, members_at-place}
 use Rattle.semantics.specs.WordsOfState.{Laid, size_is, count-is, members-word}
-use Rattle.semantics.specs.Agree.{test-regular, test-laid}
+use Rattle.semantics.proofs.Agree.{test-regular, test-laid}
 use Rattle.place.specs.Place.{place_of, place_for}
 use Rattle.place.specs.Seats.{Seat, Sought, Granted, sought, granted}
 use Rattle.place.specs.declared.Place.{Place}

@@ -9,7 +9,7 @@ use borrow.Author.Tests.{ltb-true, ltb-false, lt-leb, eq-eqb, ne_eqb}
 use Rattle.std.proofs.Math.Pow.{pow-lt}
 use Rattle.std.proofs.Math.ListN.{length, length-append}
 use Rattle.nodes.specs.Sets.{node_limit, has, beyond, empty, single, with_node}
-use Rattle.nodes.specs.SetLaws.{has-none, with_node-in, has-with_node, union-lt}
+use Rattle.nodes.proofs.SetLaws.{has-none, with_node-in, has-with_node, union-lt}
 use Rattle.semantics.specs.Sizes.{group_limit, group_names}
 use Rattle.tokens.specs.Reserved.{same, among}
 use Rattle.tokens.specs.Words.{same_eq, same_refl}

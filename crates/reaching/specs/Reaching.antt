@@ -9,7 +9,7 @@ use Rattle.commands.specs.declared.Command.TheVariants.{WhereisNameAt, Send, Sen
 use Rattle.answers.specs.Answers.{answer_of}
 use Rattle.semantics.specs.Steps.{connect, pid_or_undefined, Looked, ask, send_on}
 use Rattle.semantics.specs.Test.{sound}
-use Rattle.semantics.specs.Lookups.{host-asked}
+use Rattle.semantics.proofs.Lookups.{host-asked}
 use Rattle.semantics.specs.WordsOfState.{Laid}
 use Rattle.answers.specs.declared.Value.TheVariants.{Pid}
 use Rattle.answers.specs.declared.Reason.{Reason}

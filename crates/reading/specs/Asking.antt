@@ -4,7 +4,7 @@ use Rattle.std.proofs.Common.{sym, ◌∙◌, arith, ne_eqb}
 use Rattle.semantics.specs.State.{State, find}
 use Rattle.commands.specs.declared.Command.TheVariants.{WhereisName}
 use Rattle.semantics.specs.Steps.{ask, tell}
-use Rattle.semantics.specs.Lookups.{whereis-tells}
+use Rattle.semantics.proofs.Lookups.{whereis-tells}
 use Rattle.answers.specs.declared.Reason.{Reason}
 use Rattle.answers.specs.declared.Reason.TheVariants.{Done}
 use Rattle.inputs.specs.Judge.{name_reason}

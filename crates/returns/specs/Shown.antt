@@ -7,8 +7,8 @@ use Rattle.commands.specs.declared.Command.{Command}
 use Rattle.answers.specs.Answers.{answer_of}
 use Rattle.semantics.specs.Steps.{Result, reply}
 use Rattle.semantics.specs.Test.{sound}
-use Rattle.semantics.specs.Call.{Call, call, written, listed_over}
-use Rattle.semantics.specs.Calls.{call-sound, call-unsound, why}
+use Rattle.semantics.specs.Call.{Call, call, written, listed_over, why}
+use Rattle.semantics.proofs.Calls.{call-sound, call-unsound}
 use Rattle.semantics.specs.WordsOfState.{Laid, words_of}
 use Rattle.answers.specs.declared.Answer.{Answer}
 use Rattle.answers.specs.declared.Value.{Value}

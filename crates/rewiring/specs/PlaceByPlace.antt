@@ -7,8 +7,8 @@ use Rattle.std.proofs.Math.Seq.{set_out}
 use Rattle.std.proofs.lemmas.Bool.{lt-leb}
 use Rattle.nodes.specs.Sets.{node_limit, has, without_node, lowest, rest}
 use Rattle.nodes.specs.Bools.{by_lt}
-use Rattle.nodes.specs.SetLaws.{has-none, has-without_node}
-use Rattle.nodes.specs.LowestNode.{lowest-has, rest-less}
+use Rattle.nodes.proofs.SetLaws.{has-none, has-without_node}
+use Rattle.nodes.proofs.LowestNode.{lowest-has, rest-less}
 use Rattle.semantics.specs.Steps.{mapi}
 
 -- ---- functions of a place and its word

@@ -18,6 +18,10 @@ unfoldable pub use Rattle.semantics.specs.Given.{refused, listed_over}
 abbrev pub written : Result → Call
 written r = record { answer = r.answer; list = r.list; table = layout names_per_group r.next }
 
+-- why a table that does not pass is refused
+abbrev pub why : List ℕ → Reason
+why t = cond (eqb (length t) (table_words names_per_group)) Unsound TableLength
+
 -- the call of a command; room is how many words the run for a list has, i is the caller
 unfoldable pub call : ℕ → ℕ → Command → List ℕ → Call
 call room i c t =

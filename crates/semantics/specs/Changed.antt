@@ -7,7 +7,7 @@ use Rattle.std.proofs.Math.Option.{none, some}
 use mathlib.Core.List.{List, []}
 use Prim.Native.Nat.{ℕ, ◌^◌, ◌≤◌, ◌<◌}
 use Rattle.nodes.specs.Sets.{node_limit, has, roster, union, diff}
-use Rattle.nodes.specs.SetLaws.{has-union, has-ext, union-lt, subset-union, subset-le}
+use Rattle.nodes.proofs.SetLaws.{has-union, has-ext, union-lt, subset-union, subset-le}
 use Rattle.entries.specs.Entries.{Entry}
 use Rattle.entries.specs.NamespaceSound as Namespace
 use Rattle.semantics.specs.Sizes.{group_limit, group_names}

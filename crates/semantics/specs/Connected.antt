@@ -6,7 +6,7 @@ use Rattle.std.proofs.Math.Bool.{true, false, or-true, and-false, and_comm}
 use Rattle.std.proofs.lemmas.Bool.{false≢true}
 use Rattle.std.proofs.Math.Pow.{pow-lt}
 use Rattle.nodes.specs.Sets.{node_limit, has, empty, single, union}
-use Rattle.nodes.specs.SetLaws.{has-union, has-single, union-lt}
+use Rattle.nodes.proofs.SetLaws.{has-union, has-single, union-lt}
 use Rattle.semantics.specs.State.{State, free_of}
 use Rattle.semantics.specs.Steps.{interconnect, link, merge, connect}
 use Rattle.semantics.specs.Regular.{Met, Wired, Regular, loose}

@@ -4,7 +4,7 @@ use Rattle.std.proofs.Common.{sym, ap, ap₂, ◌∙◌, inl, inr, ⊎_elim, ari
 use Rattle.std.proofs.Math.Option.{Option, some}
 use Rattle.nodes.specs.Sets.{has, single, union, diff}
 use Rattle.nodes.specs.Bools.{by_lt}
-use Rattle.nodes.specs.SetLaws.{union_right_comm, diff-right-comm, diff-none}
+use Rattle.nodes.proofs.SetLaws.{union_right_comm, diff-right-comm, diff-none}
 use Rattle.entries.specs.Entries.{Entry}
 use Rattle.semantics.specs.State.{Group, State, find, become, put, add_group}
 use Rattle.semantics.specs.Groups.{length-put, length-add_group}

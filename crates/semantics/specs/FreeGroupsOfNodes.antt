@@ -3,7 +3,7 @@ use Rattle.std.specs.Prelude.{◌≡◌, refl, Bool, true, false, not, ◌&&◌,
 use Rattle.std.proofs.Common.{sym, ap, ◌∙◌, eq-eqb, eqb-true, ltb-true}
 use Rattle.std.proofs.Math.Bool.{or-true, and_self, and-true, and-false, and-eq-true_iff}
 use Rattle.nodes.specs.Sets.{has, empty, roster, diff}
-use Rattle.nodes.specs.SetLaws.{has_diff, has-roster, has-none, below-pow}
+use Rattle.nodes.proofs.SetLaws.{has_diff, has-roster, has-none, below-pow}
 use Rattle.semantics.specs.State.{Group, State, with_groups, free_of, all_members, free_nodes}
 use Rattle.semantics.specs.Regular.{Regular, loose}
 

@@ -4,7 +4,7 @@ use Rattle.std.proofs.Common.{sym, ap, ◌∙◌, true≢false, arith, ltb-true,
 use Rattle.std.proofs.Math.Bool.{and-eq-true_iff}
 use Rattle.std.proofs.lemmas.List.{length-map}
 use Rattle.nodes.specs.Sets.{has}
-use Rattle.nodes.specs.SetLaws.{union_all-in, union_all_out}
+use Rattle.nodes.proofs.SetLaws.{union_all-in, union_all_out}
 use Rattle.semantics.specs.State.{Group, State, all_members}
 use Rattle.semantics.specs.Regular.{loose}
 use Rattle.semantics.specs.Truth.{unless, not_iff}

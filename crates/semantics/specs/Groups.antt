@@ -11,7 +11,7 @@ use Rattle.std.proofs.lemmas.List.{length-map}
 use borrow.Author.Tests.{eqb-true, eq-eqb, ne_eqb, lt-ltb, le-ltb}
 use Rattle.nodes.specs.Sets.{has, union_all}
 use Rattle.nodes.specs.Bools.{by_test, by_lt, by_eq}
-use Rattle.nodes.specs.SetLaws.{has-union}
+use Rattle.nodes.proofs.SetLaws.{has-union}
 use Rattle.entries.specs.Entries.{Entry}
 use Rattle.semantics.specs.State.{Group, find, become, put, add_group, drop_group, all_members}
 use Rattle.semantics.specs.Regular.{Every, Rising}

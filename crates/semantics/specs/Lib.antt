@@ -43,10 +43,7 @@ pub mod Wires
 pub mod Changed
 pub mod Merged
 pub mod Connected
-pub mod Freed
 pub mod NamesKept
-pub mod Lookups
-pub mod StepsKeep
 pub mod OpenedRegular
 -- ---- the words of a state: lists in parts and sections, bodies, one s_group and one entry in the words
 pub mod Padding
@@ -59,27 +56,10 @@ pub mod Places
 pub mod EntryPlaces
 pub mod OneGroup
 -- ---- words and state determine each other, s_groups and pids by name in both, and test, clauses and invariant agree
-pub mod RoundTrip
-pub mod ReadOff
-pub mod WordsMeaning
-pub mod KeyPlaces
 pub mod TestLaws
-pub mod StateTest
-pub mod ClausesHold
-pub mod ClausesSuffice
-pub mod Agree
--- ---- calls on tables: kept soundness, refusals, connections that stay, which words a naming command writes
-pub mod Calls
-pub mod Refused
-pub mod Growing
-pub mod Frame
-pub mod NamingFrame
 -- ---- isolation and demand 3: s_groups that lines can make, the s_group that a line can feel, effects on two s_groups, the swap law, mixes over any machine, on states, on tables
 pub mod NewLines
 pub mod GroupData
 pub mod LineSteps
 pub mod Effects
-pub mod Swap
 pub mod Mixing
-pub mod MixedStates
-pub mod Demands

@@ -6,7 +6,7 @@ use Rattle.std.proofs.Math.Bool.{cond, or-true, or-false, and-eq-true_iff}
 use Rattle.std.proofs.Math.ListN.{get_or-eq_default}
 use Rattle.nodes.specs.Sets.{node_limit, has, single, union, diff}
 use Rattle.nodes.specs.Bools.{by_lt}
-use Rattle.nodes.specs.SetLaws.{has-union, has_diff, has-single, has-none, has_above, has-below, diff-none}
+use Rattle.nodes.proofs.SetLaws.{has-union, has_diff, has-single, has-none, has_above, has-below, diff-none}
 use Rattle.semantics.specs.Steps.{mapi, zip_with, meet, left, interconnect, leave_free, one_free_group}
 use Rattle.semantics.specs.Truth.{or_cases}
 

@@ -9,7 +9,7 @@ use Rattle.std.proofs.Math.ListN.{length-replicate, get_or-eq_default}
 use Rattle.std.proofs.lemmas.List.{get_or-replicate}
 use Rattle.nodes.specs.Sets.{node_limit, has, single, union_all}
 use Rattle.nodes.specs.Bools.{by_lt}
-use Rattle.nodes.specs.SetLaws.{has-none, has-single}
+use Rattle.nodes.proofs.SetLaws.{has-none, has-single}
 use Rattle.semantics.specs.State.{all_members}
 use Rattle.semantics.specs.Steps.{opened}
 use Rattle.semantics.specs.Regular.{Wired, Regular, loose}

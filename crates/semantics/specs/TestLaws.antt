@@ -4,7 +4,7 @@ use Rattle.std.proofs.Common.{sym, ap, ap₂, ◌∙◌, subst, not-suc-le-zero,
 use Rattle.std.proofs.lemmas.Bool.{false≢true, eqb-false, lt-leb}
 use Rattle.std.proofs.Math.Bool.{and-eq-true_iff}
 use Rattle.nodes.specs.Sets.{has, single, union, inter, diff, subset, beyond}
-use Rattle.nodes.specs.SetLaws.{has-none, has-union, has-inter, has-single, has-without_node, subset-has, has-subset}
+use Rattle.nodes.proofs.SetLaws.{has-none, has-union, has-inter, has-single, has-without_node, subset-has, has-subset}
 use Rattle.entries.specs.Storage.{sound_entries-iff}
 use Rattle.semantics.specs.State.{Group}
 use Rattle.semantics.specs.Test.{trues, alli, each, ascending, same, group_tests, sound_group, linked, met, freely}

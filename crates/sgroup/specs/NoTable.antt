@@ -5,8 +5,8 @@ use Rattle.semantics.specs.Sizes.{names_per_group, table_words}
 use Rattle.commands.specs.declared.Command.{Command}
 use Rattle.answers.specs.Answers.{answer_of}
 use Rattle.semantics.specs.Test.{sound}
-use Rattle.semantics.specs.Calls.{why}
-use Rattle.semantics.specs.Agree.{test-regular}
+use Rattle.semantics.specs.Call.{why}
+use Rattle.semantics.proofs.Agree.{test-regular}
 use Rattle.answers.specs.declared.Answer.{Answer}
 use Rattle.answers.specs.declared.Value.TheVariants.{Error}
 use Rattle.step.specs.Arms.{Steps}

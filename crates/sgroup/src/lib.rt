@@ -4,8 +4,7 @@
 ghost use Rattle.std.specs.Prelude.{◌≡◌, length};
 ghost use Rattle.commands.specs.declared.Command.TheVariants.{RegisteredNames, WhereisName, OwnNodes, OwnSGroups};
 ghost use Rattle.answers.specs.Answers.{answer_of};
-ghost use Rattle.semantics.specs.Call.{call, listed_over};
-ghost use Rattle.semantics.specs.Calls.{why};
+ghost use Rattle.semantics.specs.Call.{call, listed_over, why};
 ghost use Rattle.answers.specs.declared.Value.TheVariants.{Error};
 
 use answers::{Answer, Reason};

@@ -14,7 +14,7 @@ use Rattle.answers.specs.Answers.{refuses}
 use Rattle.answers.specs.declared.Answer.{Answer}
 use Rattle.answers.specs.declared.Reason.TheVariants.{Done, TableLength, Unsound, NodeUnknown, RunShort, IndexWrong}
 use Rattle.semantics.specs.Sizes.{names_per_group, table_words, index_words}
-use Rattle.semantics.specs.Agree.{test-regular}
+use Rattle.semantics.proofs.Agree.{test-regular}
 use Rattle.semantics.specs.Table.{state_of}
 use Rattle.semantics.specs.Test.{same, sound}
 use Rattle.semantics.specs.TestLaws.{same-iff}

@@ -5,8 +5,4 @@ pub mod Spelling
 pub mod Tests
 pub mod Course
 pub mod Takes
-pub mod Spelt
-pub mod Parsed
-pub mod Converse
-pub mod FilePlace
 pub mod Samples

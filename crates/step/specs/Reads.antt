@@ -12,7 +12,7 @@ use Rattle.semantics.specs.Ranges.{bad_group}
 use Rattle.semantics.specs.Steps.{Outcome, Effect, keep, error, listed, as_member, name_words, inside, outcome, apply, target, group_step, rule, step}
 use Rattle.semantics.specs.Table.{layout, state_of}
 use Rattle.semantics.specs.Test.{sound}
-use Rattle.semantics.specs.Agree.{test-regular}
+use Rattle.semantics.proofs.Agree.{test-regular}
 use Rattle.semantics.specs.Call.{refused, written, call}
 use Rattle.answers.specs.declared.Value.{Value}
 use Rattle.answers.specs.declared.Reason.TheVariants.{TableLength, Unsound, CallerUnknown}

@@ -5,13 +5,13 @@ use Rattle.std.proofs.Math.Bool.{and-eq-true_iff}
 use Rattle.std.proofs.lemmas.Bool.{not-true}
 use Rattle.nodes.specs.Sets.{node_limit, empty, roster, diff, word_at}
 use Rattle.nodes.specs.Bools.{by_lt, test-ext}
-use Rattle.nodes.specs.SetLaws.{has_diff, has-roster, below-pow}
+use Rattle.nodes.proofs.SetLaws.{has_diff, has-roster, below-pow}
 use Rattle.semantics.specs.Sizes.{group_limit, contents_at, members_at, links_at, free_at, bodies_at, table_words}
 use Rattle.semantics.specs.Soundness.{size_of, hidden_of, count_of, name_of, members_of, links_of, free_of, entry_of, In, FreeNormal, Sound}
 use Rattle.semantics.specs.Truth.{unless}
 use Rattle.free_test.specs.WireTests.{all_below, all_zero, links_sound, free_sound}
 use Rattle.free_test.specs.Below.{tests, below-iff, within-iff}
-use Rattle.free_test.specs.WireTestMeaning.{SoundLinks, SoundFree, links_sound-iff, members_met-iff, free_sound-iff}
+use Rattle.free_test.proofs.WireTestMeaning.{SoundLinks, SoundFree, links_sound-iff, members_met-iff, free_sound-iff}
 use Rattle.groups_test.specs.GroupTests.{name_before, contents_right, members_right, part, links_part, free_part, met_right, names_right, head_right, unused_zero, grouped_in}
 use Rattle.groups_test.specs.GroupsBelow.{body-within}
 use Rattle.groups_test.specs.GroupMembers.{length_part, part-word, grouped-has, grouped_by}

@@ -7,7 +7,7 @@ use Rattle.nodes.specs.Bools.{test-ext}
 use Rattle.semantics.specs.Sizes.{group_limit, table_words}
 use Rattle.semantics.specs.Soundness.{size_of, hidden_of, count_of}
 use Rattle.semantics.specs.Test.{sound}
-use Rattle.semantics.specs.Agree.{sound-iff}
+use Rattle.semantics.proofs.Agree.{sound-iff}
 use Rattle.semantics.specs.Truth.{unless}
 use Rattle.free_test.specs.WireTests.{all_below, free_sound}
 use Rattle.free_test.specs.Below.{tests}

@@ -3,7 +3,7 @@
 use mathlib.Core.Path.{refl, sym, ◌∙◌}
 use native.Mathlib.Omega.{arith}
 use Rattle.semantics.specs.Sizes.{names_per_group}
-use Rattle.semantics.specs.Agree.{test-regular}
+use Rattle.semantics.proofs.Agree.{test-regular}
 use Rattle.creating.specs.CreatingLaws.{makes, made_all}
 use Rattle.creating.proofs.create.Goals as goal
 

@@ -2,7 +2,7 @@
 -- Assumes nothing.
 use borrow.Author.Tests.{eq-eqb, ne_eqb}
 use Rattle.nodes.specs.Sets.{bit, union, inter}
-use Rattle.nodes.specs.Words.{shl_one}
+use Rattle.nodes.proofs.Words.{shl_one}
 use Rattle.free_test.proofs.freely.Goals as goal
 
 pub returns-then-loose-i-eq1 : goal.returns-then-loose-i-eq1

@@ -4,7 +4,7 @@ use borrow.Author.Rules.{rules}
 use native.Mathlib.Omega.{arith}
 use lib.ListN.{length-set}
 use Rattle.nodes.specs.Sets.{union}
-use Rattle.nodes.specs.Words.{shl_one}
+use Rattle.nodes.proofs.Words.{shl_one}
 use Rattle.free_test.specs.Knowing.{known_more}
 use Rattle.free_test.proofs.know.Goals as goal
 

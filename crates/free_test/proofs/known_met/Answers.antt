@@ -5,9 +5,9 @@ use mathlib.Core.Path.{◌∙◌}
 use Prim.Native.Nat.{◌<◌, ◌^◌}
 use native.Mathlib.Omega.{arith}
 use borrow.Author.Tests.{lt-ltb}
-use Rattle.nodes.specs.Sets.{node_limit, subset, inter, lowest}
-use Rattle.nodes.specs.SetLaws.{subset-roster}
-use Rattle.nodes.specs.LowestNode.{lowest-lt, rest-less}
+use Rattle.nodes.specs.Sets.{node_limit, subset, inter}
+use Rattle.nodes.proofs.SetLaws.{subset-roster}
+use Rattle.nodes.proofs.LowestNode.{lowest-lt, rest-less}
 use Rattle.free_test.specs.Gather.{walked}
 use Rattle.free_test.specs.Knowing.{knows_all, known-turn}
 use Rattle.free_test.proofs.known_met.Goals as goal

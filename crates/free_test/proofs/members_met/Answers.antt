@@ -8,8 +8,8 @@ use native.Mathlib.Omega.{arith}
 use lib.ListN.{length}
 use borrow.Author.Tests.{eq-eqb, ne_eqb}
 use Rattle.nodes.specs.Sets.{node_limit, empty, union, diff, without_node, word_at}
-use Rattle.nodes.specs.SetLaws.{subset-diff}
-use Rattle.nodes.specs.LowestNode.{lowest-lt, rest-less}
+use Rattle.nodes.proofs.SetLaws.{subset-diff}
+use Rattle.nodes.proofs.LowestNode.{lowest-lt, rest-less}
 use Rattle.free_test.specs.WireTests.{all_of, others_met, members_met}
 use Rattle.free_test.specs.Gather.{met-turn, walked}
 use Rattle.free_test.proofs.members_met.Goals as goal

@@ -6,8 +6,8 @@ use Prim.Native.Nat.{ℕ, ◌<◌}
 use native.Mathlib.Omega.{arith}
 use lib.Dec.{eqb}
 use lib.Bits.{bit_xor}
-use Rattle.nodes.specs.Sets.{empty, union, lowest, word_at}
-use Rattle.nodes.specs.LowestNode.{lowest-lt, rest-less}
+use Rattle.nodes.specs.Sets.{empty, union, word_at}
+use Rattle.nodes.proofs.LowestNode.{lowest-lt, rest-less}
 use Rattle.free_test.specs.WireTests.{is_lowest}
 use Rattle.free_test.specs.Gather.{empty-xor, met-turn, walked}
 use Rattle.free_test.proofs.own_lowest.Goals as goal

@@ -2,7 +2,6 @@
 use mathlib.Core.Path.{◌≡◌, sym, ◌∙◌}
 use Prim.Native.Nat.{ℕ}
 use native.Mathlib.Omega.{arith}
-use Rattle.walk.specs.Walk.{head_at, entry_at}
 use Rattle.walk.specs.Unfold.{group-ahead, head-ahead, nodes-ahead}
 use Rattle.plan.specs.Looked.{few-atoms}
 use Rattle.gathering.specs.Turns.{taken_none, taken_more, taken_all}

@@ -1,8 +1,7 @@
 -- `gathering::nodes_at` meets its contract: what the nodes from j on make of the set so far, all of them make. Assumes nothing.
-use mathlib.Core.Path.{◌≡◌, sym, ◌∙◌}
+use mathlib.Core.Path.{◌≡◌, sym}
 use Prim.Native.Nat.{ℕ}
 use native.Mathlib.Omega.{arith}
-use Rattle.walk.specs.Walk.{atom_at}
 use Rattle.walk.specs.Unfold.{atom-ahead}
 use Rattle.gathering.specs.Nodes.{noded-more, noded-last}
 use Rattle.gathering.proofs.nodes_at.Goals as goal

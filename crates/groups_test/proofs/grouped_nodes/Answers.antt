@@ -34,7 +34,7 @@ returns-then-right-beyond c =
     let end : v.i ≡ a.g = omega arith in
     let few : v.i ≤ group_limit = omega (arith, c.requires.1) in
     let the : cond true (grouped.Nodes v.all) grouped.Wrong ≡ grouped_of a.cap a.t.now a.g a.n =
-        rw (← end) (grouped-told a.cap a.t.now v.i a.n c.requires.0 few v.right v.invariant.1 v.all v.invariant.2 c.beyond.result c.beyond.ensures true c.if-right-beyond.true) in
+    rw (← end) (grouped-told a.cap a.t.now v.i a.n c.requires.0 few v.right v.invariant.1 v.all v.invariant.2 c.beyond.result c.beyond.ensures true c.if-right-beyond.true) in
     the
 
 pub returns-else-right-beyond : goal.returns-else-right-beyond
@@ -44,5 +44,5 @@ returns-else-right-beyond c =
     let end : v.i ≡ a.g = omega arith in
     let few : v.i ≤ group_limit = omega (arith, c.requires.1) in
     let the : cond false (grouped.Nodes v.all) grouped.Wrong ≡ grouped_of a.cap a.t.now a.g a.n =
-        rw (← end) (grouped-told a.cap a.t.now v.i a.n c.requires.0 few v.right v.invariant.1 v.all v.invariant.2 c.beyond.result c.beyond.ensures false c.if-right-beyond.false) in
+    rw (← end) (grouped-told a.cap a.t.now v.i a.n c.requires.0 few v.right v.invariant.1 v.all v.invariant.2 c.beyond.result c.beyond.ensures false c.if-right-beyond.false) in
     the

@@ -3,7 +3,7 @@
 use mathlib.Core.Path.{ap, ◌∙◌}
 use Rattle.semantics.specs.Sizes.{names_per_group}
 use Rattle.semantics.specs.Test.{sound}
-use Rattle.semantics.specs.Agree.{test-regular}
+use Rattle.semantics.proofs.Agree.{test-regular}
 use Rattle.creating.specs.Creating.{created}
 use Rattle.launch.specs.Launches.{opened-sound}
 use Rattle.launch.proofs.make.Goals as goal

@@ -5,7 +5,7 @@ use mathlib.Core.Path.{◌≡◌, sym, ap, ap₂, ◌∙◌}
 use Prim.Native.Nat.{ℕ, ◌-◌, ◌*◌, ◌%◌, ◌^◌, ◌≤◌, min}
 use native.Mathlib.Omega.{arith}
 use Rattle.nodes.specs.Sets.{node_limit, empty, roster, union, inter, word_at}
-use Rattle.nodes.specs.Words.{shl_one}
+use Rattle.nodes.proofs.Words.{shl_one}
 use Rattle.semantics.specs.Test.{linked}
 use Rattle.free_test.specs.WireTests.{all_below}
 use Rattle.free_test.specs.Below.{below_none}

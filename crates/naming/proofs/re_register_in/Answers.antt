@@ -1,7 +1,6 @@
 -- `naming::re_register_in` meets its contract: each return is a case of the rule; a name that is held gets the pid, and one that is not comes in.
 -- Assumes nothing.
 use mathlib.Core.Path.{sym, ◌∙◌}
-use mathlib.Core.Bool.{false}
 use Rattle.names.specs.NamesHere.{standing}
 use Rattle.returns.specs.Settled.{not-replaced, pid-held-already, replaced}
 use Rattle.naming.specs.Anew.{anew}

@@ -1,7 +1,6 @@
 -- `naming::register_in` meets its contract: each return is a case of the rule, and the last is that of a new name.
 -- Assumes nothing.
 use mathlib.Core.Path.{sym, ◌∙◌}
-use mathlib.Core.Bool.{false}
 use Rattle.entries.specs.Entries.{lookup, rank}
 use Rattle.names.specs.NamesAt.{names_at}
 use Rattle.names.specs.NamesHere.{standing}

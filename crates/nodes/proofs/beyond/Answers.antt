@@ -3,7 +3,7 @@
 use borrow.Author.Tests.{le-ltb}
 use mathlib.Core.Path.{sym, ◌∙◌}
 use Rattle.nodes.specs.Sets.{node_limit}
-use Rattle.nodes.specs.Words.{shr-beyond, beyond-limit}
+use Rattle.nodes.proofs.Words.{shr-beyond, beyond-limit}
 use Rattle.nodes.proofs.beyond.Goals as goal
 
 pub returns-then-n-lt-NODE_LIMIT : goal.returns-then-n-lt-NODE_LIMIT

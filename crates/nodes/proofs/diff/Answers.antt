@@ -1,7 +1,7 @@
 -- `nodes::diff` meets its contract: `!b` is all 64 nodes but those of b.
 -- Assumes nothing.
 use Rattle.nodes.specs.Sets.{inter}
-use Rattle.nodes.specs.Words.{inter-not}
+use Rattle.nodes.proofs.Words.{inter-not}
 use Rattle.nodes.proofs.diff.Goals as goal
 
 pub returns : goal.returns

@@ -3,7 +3,7 @@
 use borrow.Author.Tests.{le-ltb}
 use mathlib.Core.Path.{sym, ◌∙◌}
 use Rattle.nodes.specs.Sets.{node_limit}
-use Rattle.nodes.specs.SetLaws.{has_above}
+use Rattle.nodes.proofs.SetLaws.{has_above}
 use Rattle.nodes.proofs.has.Goals as goal
 
 pub returns-else-i-lt-NODE_LIMIT : goal.returns-else-i-lt-NODE_LIMIT

@@ -2,8 +2,8 @@
 -- Assumes nothing.
 use mathlib.Core.Path.{sym, ap, ◌∙◌}
 use Rattle.nodes.specs.Sets.{inter, rest}
-use Rattle.nodes.specs.SetLaws.{diff-none}
-use Rattle.nodes.specs.LowestNode.{inter-pred}
+use Rattle.nodes.proofs.SetLaws.{diff-none}
+use Rattle.nodes.proofs.LowestNode.{inter-pred}
 use Rattle.nodes.proofs.rest.Goals as goal
 
 pub returns-then-set-eq0 : goal.returns-then-set-eq0

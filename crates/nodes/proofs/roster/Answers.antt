@@ -6,7 +6,7 @@ use Prim.Native.Nat.{ℕ, ◌-◌, min}
 use native.Mathlib.Omega.{arith}
 use lib.Pow.{pow_pos}
 use Rattle.nodes.specs.Sets.{node_limit, roster}
-use Rattle.nodes.specs.Words.{shl_one}
+use Rattle.nodes.proofs.Words.{shl_one}
 use Rattle.nodes.proofs.roster.Goals as goal
 
 pub overflow_sub-result : goal.overflow_sub-result

@@ -7,7 +7,7 @@ use native.Mathlib.Omega.{arith}
 use lib.ListN.{length, take}
 use lib.Seq.{take_all}
 use Rattle.nodes.specs.Sets.{union, word_at, union_all}
-use Rattle.nodes.specs.SetLaws.{union_all-take}
+use Rattle.nodes.proofs.SetLaws.{union_all-take}
 use Rattle.nodes.proofs.union_all.Goals as goal
 
 pub loop-i-init : goal.loop-i-init

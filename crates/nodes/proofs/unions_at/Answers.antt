@@ -3,8 +3,8 @@
 use Prim.Native.Nat.{◌<◌}
 use native.Mathlib.Omega.{arith}
 use Rattle.nodes.specs.Sets.{union, gather}
-use Rattle.nodes.specs.LowestNode.{rest-less}
-use Rattle.nodes.specs.Walk.{walk_none, walk-rest}
+use Rattle.nodes.proofs.LowestNode.{rest-less}
+use Rattle.nodes.proofs.Walk.{walk_none, walk-rest}
 use Rattle.nodes.proofs.unions_at.Goals as goal
 
 pub loop-left-smaller : goal.loop-left-smaller

@@ -3,7 +3,7 @@
 use borrow.Author.Tests.{lt-ltb, le-ltb}
 use mathlib.Core.Path.{ap}
 use Rattle.nodes.specs.Sets.{node_limit, union}
-use Rattle.nodes.specs.Words.{shl_one}
+use Rattle.nodes.proofs.Words.{shl_one}
 use Rattle.nodes.proofs.with.Goals as goal
 
 pub returns-then-i-lt-NODE_LIMIT : goal.returns-then-i-lt-NODE_LIMIT

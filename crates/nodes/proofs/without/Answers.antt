@@ -3,8 +3,8 @@
 use borrow.Author.Rules.{rules}
 use mathlib.Core.Path.{sym, ap, ◌∙◌}
 use Rattle.nodes.specs.Sets.{node_limit, diff}
-use Rattle.nodes.specs.SetLaws.{has_above, without_other}
-use Rattle.nodes.specs.Words.{shl_one}
+use Rattle.nodes.proofs.SetLaws.{has_above, without_other}
+use Rattle.nodes.proofs.Words.{shl_one}
 use Rattle.nodes.proofs.without.Goals as goal
 
 pub returns-then-i-lt-NODE_LIMIT : goal.returns-then-i-lt-NODE_LIMIT

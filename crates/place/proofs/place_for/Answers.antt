@@ -1,16 +1,12 @@
 -- `place::place_for` meets its contract: the s_group that is found has its members in the word at its place.
 -- Assumes nothing.
-use mathlib.Core.Path.{◌≡◌, sym, ap, ◌∙◌}
-use mathlib.Core.Bool.{cond}
+use mathlib.Core.Path.{sym, ap, ◌∙◌}
 use native.Mathlib.Omega.{arith}
 use Prim.Native.Nat.{◌<◌}
-use Rattle.nodes.specs.Sets.{has}
 use Rattle.semantics.specs.Sizes.{group_limit}
-use Rattle.answers.specs.declared.Reason.TheVariants.{NotMember}
-use Rattle.place.specs.Place.{open_at, place_for}
+use Rattle.place.specs.Place.{open_at}
 use Rattle.place.specs.Sound.{here, groups_few, sought-here, seat-below, members-here}
 use Rattle.place.specs.declared.Place.TheVariants.{At}
-use Rattle.place.specs.declared.Access.TheVariants.{Member, Denied}
 use Rattle.place.proofs.place_for.Goals as goal
 
 pub overflow_add-at : goal.overflow_add-at

@@ -3,7 +3,6 @@
 use borrow.Author.Rules.{rules}
 use mathlib.Core.Path.{sym, ◌∙◌}
 use native.Mathlib.Omega.{arith}
-use Rattle.nodes.specs.Sets.{diff}
 use Rattle.rewiring.specs.PlaceByPlace.{from_start, from-turn, from_end}
 use Rattle.rewiring.proofs.take_out.Invariants.{lost}
 use Rattle.rewiring.proofs.take_out.Goals as goal

@@ -1,0 +1,3 @@
+-- What is proved of the definitions in specs/: theorems, and the laws that they rest on.
+-- ---- laws
+pub mod StepRows

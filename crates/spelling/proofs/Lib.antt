@@ -1,0 +1,5 @@
+-- What is proved of the definitions in specs/: theorems, and the laws that they rest on.
+pub mod Spelt
+pub mod Parsed
+pub mod Converse
+pub mod FilePlace

@@ -23,7 +23,6 @@ use Rattle.grammar.specs.File.{Group, Outcome, taken, refused, outcome}
 use Rattle.walk.specs.Groups.{groups}
 use Rattle.launch_file.specs.Reading.{from_groups, read_as}
 use Rattle.launch_file.specs.declared.Reading.{Reading}
-use Rattle.launch_file.specs.declared.Reading.TheVariants as Reading
 use Rattle.book.specs.Book.{lines, fit}
 use Rattle.duplicates.specs.Duplicates.{kept, clash}
 use Rattle.plan.specs.declared.Plan.{Plan}

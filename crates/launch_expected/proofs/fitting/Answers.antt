@@ -15,8 +15,6 @@ loop-i-init c = search rules
 pub returns-then-bytes-to : goal.returns-then-bytes-to
 returns-then-bytes-to c = let v = c.loop-i.invariant in record { value = v.4 ∙ ap (following _ _ _) (omega arith); room_unchanged = v.3 }
 
--- CONVERT: w.2 is a field w.VARIABLE-is now
--- CONVERT: w.1 is a field w.VARIABLE-is now
 pub loop-i-preserved : goal.loop-i-preserved
 loop-i-preserved c =
     let v = c.loop-i.invariant in
@@ -25,7 +23,7 @@ loop-i-preserved c =
       search rules,
       search rules,
       f.room_unchanged ∙ v.3,
-      elim c.if-fits.branch [ then-fits w ↦ with_byte _ _ _ _ _ (omega arith) v.2 v.3 _ f.value _ v.4 w.if-fits.true _ (w.2 ∙ w.with-set.ensures) | else-fits w ↦ w.1 ∙ without-byte _ _ _ _ _ (omega arith) v.2 v.3 _ f.value _ v.4 w.if-fits.false ],
+      elim c.if-fits.branch [ then-fits w ↦ with_byte _ _ _ _ _ (omega arith) v.2 v.3 _ f.value _ v.4 w.if-fits.true _ (w.set-is ∙ w.with-set.ensures) | else-fits w ↦ w.set-is ∙ without-byte _ _ _ _ _ (omega arith) v.2 v.3 _ f.value _ v.4 w.if-fits.false ],
     )
 
 pub returns : goal.returns

@@ -1,5 +1,5 @@
 #!/usr/bin/env bash
-# What the pages cite is there: each `crate/File` is a file of that crate's specs/, the names that follow it after a colon stand in that file, and each
+# What the pages cite is there: each `crate/File` is a file of that crate's specs/ or proofs/, the names that follow it after a colon stand in that file, and each
 # link to a page of this repository leads to one.
 set -uo pipefail
 cd "$(dirname "${BASH_SOURCE[0]}")/.."
@@ -18,6 +18,7 @@ for page in README.md docs/*.md docs/landings/*.md examples/README.md; do
         file=${cited#\`}
         file=${file%%\`*}
         spec=crates/${file%%/*}/specs/${file#*/}.antt
+        [ -e "$spec" ] || spec=crates/${file%%/*}/proofs/${file#*/}.antt
         [ -e "$spec" ] || { miss "$page" "$file"; continue; }
         case $cited in *'`: `'*) ;; *) continue ;; esac
         for name in $(grep -oE '`[^` ]+`' <<<"${cited#*\`: }" | tr -d '`'); do

@@ -1,7 +1,8 @@
--- Launch files as Erlang terms. `Spelling` is the definition (believed): which terms are such files, and their texts. `Spelt` has the theorem that every text of
--- a file is taken, with its groups; `Converse` that every text that is taken is one; `FilePlace` what the place of a refusal is (believed: `SomeFile`, `FilePlace`). `Course`, between both, is the way through a file token by token; `Takes`
--- leads from it to the machine's bytes and `Parsed` to the term. `Samples` has terms with their texts. Assumes nothing.
+-- Launch files as Erlang terms. `Spelling` is the definition (believed): which terms are such files, and their texts; `FilePlace` (believed) what the place of a refusal
+-- is. `Course` is the way through a file token by token; `Takes` leads from it to the machine's bytes. `Samples` has terms with their texts. The theorems stand in
+-- proofs/. Assumes nothing.
 pub mod Spelling
+pub mod FilePlace
 pub mod Tests
 pub mod Course
 pub mod Takes

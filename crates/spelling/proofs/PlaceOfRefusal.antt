@@ -1,22 +1,13 @@
--- The place of a refusal in the words of document 02: how many leading bytes of a text some launch file shares, and none shares more. Assumes nothing.
+-- Where a text is refused is the place that `FilePlace` defines. Assumes nothing.
 use Rattle.std.specs.Prelude.{◌≡◌, true, List, ◌++◌, ℕ, ◌≤◌, length, take, drop}
 use Rattle.std.proofs.Common.{sym, ap, ◌∙◌, take-append-drop, length-take-le}
 use Rattle.std.proofs.Math.Seq.{take-append_seam}
 use Rattle.grammar.specs.File.{Group, taken, refused, outcome}
 use Rattle.grammar.specs.Place.{Shares, refused-place}
 use Rattle.spelling.specs.Spelling.{LaunchFile, groups_of, well_formed, Blank, spell}
+use Rattle.spelling.specs.FilePlace.{SomeFile, FilePlace}
 use Rattle.spelling.proofs.Spelt.{spelt}
 use Rattle.spelling.proofs.Converse.{taken_spelt}
-
--- some launch file has the first n bytes of t
-unfoldable pub SomeFile : List ℕ → ℕ → Type 0
-SomeFile t n = (f : LaunchFile) × (gap : ℕ → List ℕ) × (well_formed f ≡ true) × Blank gap × (take n (spell gap f) ≡ take n t)
-
--- p is the number of leading bytes of t that some launch file shares, and none shares more
-pub record FilePlace (t : List ℕ) (p : ℕ) : Type 0 where
-  pub within : p ≤ length t
-  pub shared : SomeFile t p
-  pub most : (n : ℕ) → n ≤ length t → SomeFile t n → n ≤ p
 
 -- where the text is refused
 pub file-place : (t : List ℕ) (p : ℕ) → outcome t ≡ refused p → FilePlace t p

@@ -7,9 +7,7 @@ use Rattle.forms.specs.Forms.{number_of, command_of, takes_set}
 use Rattle.forms.specs.declared.Formed.{Formed}
 use Rattle.forms.specs.declared.Formed.TheVariants.{Is, Nothing}
 use Rattle.text.specs.declared.Number.{Number}
-use Rattle.text.specs.declared.Number.TheVariants as Number
 use Rattle.text.specs.declared.Half.{Half}
-use Rattle.text.specs.declared.Half.TheVariants as Half
 use Rattle.line.specs.declared.Request.{Request}
 use Rattle.line.specs.declared.Request.TheVariants.{Open, Command, BadLine}
 

@@ -1,5 +1,5 @@
 -- The loop of `sgroup_run::main`: each run goes on by a line at least, so fewer bytes are left.
-use Rattle.std.proofs.Common.{length, ◌-◌, ◌≤◌, ◌≡◌}
+use Rattle.std.proofs.Common.{length, ◌-◌, ◌≡◌}
 use Rattle.sgroup_run.proofs.main.Given as goal
 
 abbrev pub invariant-loop-at : goal.invariant-loop-at

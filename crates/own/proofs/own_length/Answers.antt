@@ -3,7 +3,7 @@
 use mathlib.Core.Path.{sym, ◌∙◌}
 use native.Mathlib.Nat.{sub-zero}
 use native.Mathlib.Omega.{arith}
-use Rattle.own.specs.OwnGroups.{count-more, count_same, count_none}
+use Rattle.own.proofs.OwnGroups.{count-more, count_same, count_none}
 use Rattle.own.proofs.own_length.Goals as goal
 use Rattle.own.proofs.own_length.Goals.{then-has, else-has}
 

@@ -12,7 +12,7 @@ use Rattle.returns.specs.Judged.{step-own-s-groups, refused, passed}
 use Rattle.place.specs.Sound.{here, regular, base, groups_few, nodes-few}
 use Rattle.returns.specs.Shown.{lists}
 use Rattle.returns.specs.Listing.{listed_fits, listed-short}
-use Rattle.own.specs.OwnGroups.{own-laid, own-count}
+use Rattle.own.proofs.OwnGroups.{own-laid, own-count}
 use Rattle.returns.specs.Ends.{heard}
 use Rattle.inputs.proofs.Reasons.{not_done}
 use Rattle.own.proofs.own_s_groups.Goals as goal

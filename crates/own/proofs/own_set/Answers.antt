@@ -5,7 +5,7 @@ use native.Mathlib.Omega.{arith}
 use Rattle.nodes.specs.Sets.{single}
 use Rattle.nodes.proofs.SetLaws.{with_node-in, none-union}
 use Rattle.place.specs.Sound.{groups_few}
-use Rattle.own.specs.OwnGroups.{own_free, own-shared, own_alone}
+use Rattle.own.proofs.OwnGroups.{own_free, own-shared, own_alone}
 use Rattle.own.proofs.own_set.Goals as goal
 
 pub returns-then-free-ne0 : goal.returns-then-free-ne0

@@ -6,7 +6,7 @@ use Prim.Native.Nat.{ℕ}
 use lib.ListN.{get_or}
 use Rattle.nodes.specs.Sets.{union}
 use Rattle.own.specs.OwnWords.{shared_members}
-use Rattle.own.specs.OwnGroups.{share-more, share-same, share-none}
+use Rattle.own.proofs.OwnGroups.{share-more, share-same, share-none}
 use Rattle.own.proofs.shared_members.Goals as goal
 use Rattle.own.proofs.shared_members.Goals.{then-has, else-has}
 

@@ -10,7 +10,7 @@ use lib.ListN.{length, get_or, set, length-set, length-append}
 use Rattle.semantics.specs.Sizes.{group_names}
 use Rattle.semantics.specs.Call.{listed_over}
 use Rattle.own.specs.OwnWords.{own_words}
-use Rattle.own.specs.OwnGroups.{own-le, write_two, own-more, own_same}
+use Rattle.own.proofs.OwnGroups.{own-le, write_two, own-more, own_same}
 use Rattle.own.proofs.write_own.Goals as goal
 use Rattle.own.proofs.write_own.Goals.{then-has, else-has}
 

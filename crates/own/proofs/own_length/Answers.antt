@@ -10,7 +10,6 @@ use Rattle.own.proofs.own_length.Goals.{then-has, else-has}
 pub loop-i-init : goal.loop-i-init
 loop-i-init c = (omega arith, omega arith, omega arith, simp sub-zero (omega arith))
 
--- CONVERT: w.words-is is a field w.VARIABLE-is now
 pub loop-i-preserved : goal.loop-i-preserved
 loop-i-preserved c =
     let v = c.loop-i in

@@ -13,7 +13,6 @@ use Rattle.own.proofs.shared_members.Goals.{then-has, else-has}
 pub loop-i-init : goal.loop-i-init
 loop-i-init c = (omega arith, omega arith, sym (share-none c.args.node c.args.members.now))
 
--- CONVERT: w.all-is is a field w.VARIABLE-is now
 pub loop-i-preserved : goal.loop-i-preserved
 unfolding union
 loop-i-preserved c =

@@ -1,5 +1,5 @@
 -- The index of a sound table and that of the table after a call: its rows are updated where the command is done, and else they stay. Assumes nothing.
-use Rattle.std.specs.Prelude.{◌≡◌, Bool, true, cond, List, ℕ, ◌-◌, ◌*◌, ◌≤◌, eqb, length}
+use Rattle.std.specs.Prelude.{◌≡◌, Bool, true, cond, List, ℕ, ◌*◌, ◌≤◌, eqb, length}
 use Rattle.std.proofs.Math.Path.{sym, ap}
 use Rattle.std.proofs.Common.{◌∙◌, arith, eq-eqb, ne_eqb}
 use Rattle.std.proofs.Math.Bool.{false}
@@ -9,7 +9,6 @@ use Rattle.commands.specs.declared.Command.{Command}
 use Rattle.semantics.specs.Sizes.{names_per_group, row_words, index_words}
 use Rattle.semantics.specs.State.{State}
 use Rattle.semantics.specs.Table.{state_of}
-use Rattle.semantics.specs.Test.{sound}
 use Rattle.semantics.specs.Steps.{step}
 use Rattle.semantics.specs.Call.{Call, call}
 use Rattle.semantics.proofs.Calls.{call-sound}

@@ -1,5 +1,4 @@
 -- `index_test::has_row` meets its contract: what a slot says of a place is taken only if the s_group there has the name. Assumes nothing.
-use mathlib.Core.Path.{sym}
 use Prim.Native.Nat.{◌%◌}
 use native.Mathlib.Omega.{arith}
 use Rattle.entries.specs.Entries.{half_word}
@@ -24,7 +23,7 @@ bounds-t-hint c = omega (arith, (groups_few c.args.t.now c.requires.t_value))
 
 pub has_name-requires : goal.has_name-requires
 has_name-requires c =
-    record { t_len = c.requires.t_len; t_value = c.requires.t_value; at_bound = c.if-hint-t.true; half_word_value = sym c.if-t-hint.true; name_nonzero = omega arith; name_lt_half_word = omega arith }
+    record { t_len = c.requires.t_len; t_value = c.requires.t_value; at_bound = omega arith; half_word_value = omega arith; name_nonzero = omega arith; name_lt_half_word = omega arith }
 
 pub has_name-requires-in-At : goal.has_name-requires-in-At
 has_name-requires-in-At c =

@@ -1,7 +1,6 @@
 -- `indexing::leaving` meets its contract: the place of the s_group is known, and its members; or there is none of the name. Assumes nothing.
 use mathlib.Core.Path.{sym, ap, ◌∙◌}
 use native.Mathlib.Omega.{arith}
-use Rattle.nodes.specs.Sets.{inter, diff}
 use Rattle.semantics.specs.Table.{state_of}
 use Rattle.place.specs.Sound.{here, sought-here, members-here}
 use Rattle.place.specs.declared.Place.TheVariants.{At, Gap}

@@ -1,7 +1,7 @@
 -- A launch for callers in C and Rust: the four words of its answer, with the place, and what it gives with a lent run for them. Definitions, and the laws of the
 -- function. Assumes nothing.
 use Rattle.std.specs.Prelude.{◌≡◌, refl, Bool, true, false, cond, List, [], ◌∷◌, ◌++◌, ℕ, ◌≤◌, ◌<◌, ltb, length, drop, set}
-use Rattle.std.proofs.Common.{sym, ap, ◌∙◌, lt-ltb, le-ltb}
+use Rattle.std.proofs.Common.{ap, ◌∙◌, lt-ltb, le-ltb}
 use Rattle.answers.specs.Answers.{number, refuses}
 use Rattle.answers.specs.Outputs.{kind}
 use Rattle.answers.specs.declared.Answer.{Answer}

@@ -3,4 +3,3 @@
 pub mod Creating
 pub mod CreatingLaws
 pub mod Creations
-pub mod NoneRefused

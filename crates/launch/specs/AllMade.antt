@@ -23,7 +23,7 @@ use Rattle.semantics.proofs.Calls.{calls-keep-sound, opening-gives-sound}
 use Rattle.semantics.specs.State as State
 use Rattle.semantics.specs.Table.{state_of}
 use Rattle.creating.specs.Creations.{makeable, EachMade, AllThere}
-use Rattle.creating.specs.NoneRefused.{none-refused-opened, groups_there}
+use Rattle.creating.proofs.NoneRefused.{none-refused-opened, groups_there}
 use Rattle.grammar.specs.File.{Group, Outcome, taken, refused, outcome}
 use Rattle.book.specs.Book.{lines, fit}
 use Rattle.duplicates.specs.Duplicates.{kept, clash}

@@ -58,18 +58,18 @@ group-found t at begun x e = rw e (next-is t at begun)
 
 -- ---- the nodes from a place on are the next one and those behind it
 
-abbrev pub at_node : List ℕ → ℕ → Node → Type 0
-at_node t at (Node.More s e n) = (nodes t at ≡ part t s e ∷ nodes t n) × IsAhead t at n × IsInside t s e
-at_node t at (Node.Last s e n) = (nodes t at ≡ part t s e ∷ []) × IsInside t s e
-at_node t at (Node.Stop p) = nodes t at ≡ []
+abbrev pub AtNode : List ℕ → ℕ → Node → Type 0
+AtNode t at (Node.More s e n) = (nodes t at ≡ part t s e ∷ nodes t n) × IsAhead t at n × IsInside t s e
+AtNode t at (Node.Last s e n) = (nodes t at ≡ part t s e ∷ []) × IsInside t s e
+AtNode t at (Node.Stop p) = nodes t at ≡ []
 
-node-is : (t : List ℕ) (at : ℕ) → at_node t at (node_at t at)
+node-is : (t : List ℕ) (at : ℕ) → AtNode t at (node_at t at)
 node-is t at = go (node_at t at) (nodes-unfold t at) (node_at-on t at)
   where
-    go : (x : Node) → nodes t at ≡ nodes_by t (nodes t) x → NodeOn t at x → at_node t at x
+    go : (x : Node) → nodes t at ≡ nodes_by t (nodes t) x → NodeOn t at x → AtNode t at x
     go (Node.More s e n) g o = (g, o.0, o.1)
     go (Node.Last s e n) g o = (g, o.1)
     go (Node.Stop p) g o = g
 
-pub node-found : (t : List ℕ) (at : ℕ) (x : Node) → x ≡ node_at t at → at_node t at x
+pub node-found : (t : List ℕ) (at : ℕ) (x : Node) → x ≡ node_at t at → AtNode t at x
 node-found t at x e = rw e (node-is t at)

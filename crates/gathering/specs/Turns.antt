@@ -24,7 +24,7 @@ use Rattle.duplicates.specs.Names.{neither, apart, apart_snoc, apart-kept, apart
 use Rattle.plan.specs.Plan.{number_of, listed, all_listed, plan_words, fitting, verdict}
 use Rattle.plan.specs.Looked.{woven-room, woven-put}
 use Rattle.plan.specs.Turns.{all_listed-append, plan_words-append, put-more}
-use Rattle.plan.specs.Creatable.{words_at}
+use Rattle.plan.proofs.Creatable.{words_at}
 use Rattle.gathering.specs.Gathering.{seen, Noded, Planned}
 
 -- ---- a number that was not seen

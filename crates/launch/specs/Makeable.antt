@@ -20,7 +20,7 @@ use Rattle.duplicates.specs.Duplicates.{covered, named}
 use Rattle.duplicates.specs.Names.{both, neither, apart}
 use Rattle.plan.specs.Plan.{number_of, set_with, set_of, listed, all_listed, plan_words}
 use Rattle.plan.specs.Looked.{fit-nodes}
-use Rattle.plan.specs.Creatable.{number-high}
+use Rattle.plan.proofs.Creatable.{number-high}
 use Rattle.plan.specs.Peopled.{some_node, peopled}
 use Rattle.creating.specs.Creations.{differs, makeable}
 

@@ -5,4 +5,3 @@ pub mod PlanSamples
 pub mod Looked
 pub mod Turns
 pub mod Peopled
-pub mod Creatable

@@ -4,7 +4,7 @@ use borrow.Author.Rules.{rules}
 use mathlib.Core.Path.{sym, ◌∙◌}
 use native.Mathlib.Omega.{arith}
 use lib.Seq.{length-take-le}
-use Rattle.launch.specs.Launches.{fits-few, not-at-once, made-at-once}
+use Rattle.launch.proofs.LaunchLaws.{fits-few, not-at-once, made-at-once}
 use Rattle.launch.proofs.at_once.Goals as goal
 
 pub returns-then-not-fit : goal.returns-then-not-fit

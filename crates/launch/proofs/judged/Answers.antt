@@ -5,7 +5,8 @@ use mathlib.Core.Path.{refl, sym, ap, ◌∙◌}
 use native.Mathlib.Omega.{arith}
 use lib.Seq.{length-take-le}
 use Rattle.walk.specs.Groups.{groups}
-use Rattle.launch.specs.Launches.{by_plan, no-book, no_file-at, planned, fits-few, refuses-so, makes_so}
+use Rattle.launch.specs.Launches.{by_plan}
+use Rattle.launch.proofs.LaunchLaws.{no-book, no_file-at, planned, fits-few, refuses-so, makes_so}
 use Rattle.launch.proofs.judged.Goals as goal
 
 pub returns-then-not-fits : goal.returns-then-not-fits

@@ -4,7 +4,7 @@
 use mathlib.Core.Path.{sym, ap, ◌∙◌}
 use mathlib.Core.Bool.{true≢false, false≢true}
 use Rattle.launch_file.specs.Reading.{fronted, read_as}
-use Rattle.launch.specs.Launches.{length-wrong, nobody, too_many, hidden-beyond, start-beyond, refuses-so, tells-through, tells-so, read_whole, told_of}
+use Rattle.launch.proofs.LaunchLaws.{length-wrong, nobody, too_many, hidden-beyond, start-beyond, refuses-so, tells-through, tells-so, read_whole, told_of}
 use Rattle.launch.proofs.launch.Goals as goal
 
 pub returns-then-t-ne-TABLE_WORDS : goal.returns-then-t-ne-TABLE_WORDS

@@ -5,7 +5,7 @@ use Rattle.semantics.specs.Sizes.{names_per_group}
 use Rattle.semantics.specs.Test.{sound}
 use Rattle.semantics.proofs.Agree.{test-regular}
 use Rattle.creating.specs.Creating.{created}
-use Rattle.launch.specs.Launches.{opened-sound}
+use Rattle.launch.proofs.LaunchLaws.{opened-sound}
 use Rattle.launch.proofs.make.Goals as goal
 
 pub create-requires : goal.create-requires

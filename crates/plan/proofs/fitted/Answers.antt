@@ -5,7 +5,7 @@ use native.Mathlib.Omega.{arith}
 use Rattle.duplicates.specs.Next.{group-found}
 use Rattle.plan.specs.Looked.{woven-room, entered-told}
 use Rattle.plan.specs.Turns.{taken_none, taken-left, taken-unknown, taken_made, taken-too-many, taken-fits, taken-words}
-use Rattle.plan.specs.Creatable.{entered-high}
+use Rattle.plan.proofs.Creatable.{entered-high}
 use Rattle.plan.proofs.fitted.Goals as goal
 use Rattle.plan.proofs.fitted.Goals.{then-made+in-Group-enter, else-made}
 

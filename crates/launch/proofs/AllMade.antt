@@ -29,12 +29,13 @@ use Rattle.book.specs.Book.{lines, fit}
 use Rattle.duplicates.specs.Duplicates.{kept, clash}
 use Rattle.duplicates.specs.Names.{both, kept-apart}
 use Rattle.plan.specs.Plan.{listed, all_listed, plan_words}
-use Rattle.plan.specs.Creatable.{number-high}
+use Rattle.plan.proofs.Creatable.{number-high}
 use Rattle.plan.specs.Peopled.{kept-peopled}
 use Rattle.published.specs.Refusals.{Lowest}
 use Rattle.published.proofs.LowestReason.{first-lowest}
 use Rattle.launch.specs.Launch.{Launch, found, no_file, launch_tests, place_of_refusal, made, launch}
-use Rattle.launch.specs.Launches.{InOrder, opened-ok, words-make}
+use Rattle.launch.specs.Launches.{InOrder}
+use Rattle.launch.proofs.LaunchLaws.{opened-ok, words-make}
 use Rattle.launch.specs.TakenGroups.{taken-peopled}
 use Rattle.launch.specs.Makeable.{two-each, set_below, words-makeable}
 

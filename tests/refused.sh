@@ -21,7 +21,7 @@ for edit in crates/*/must-fail/*.edit; do
         *'names what the edit took away'* | *'that can be named from here'* | *'is not in scope'* | *'has no field'* | *Invariants.antt:*)
             echo "$edit: refused for its shape: ${said#*"$name: "}"
             bad=1 ;;
-        'refused, as it must be: '*'(`'*'`)'* | 'refused, as it must be: '*'error: `'* | 'refused, as it must be (only by a limit '*) ;;
+        'refused, as it must be: '*'(`'*'`)'* | 'refused, as it must be: '*'error: `'*) ;;
         *) echo "$edit: no fact is named: ${said#*"$name: "}"; bad=1 ;;
     esac
 done

@@ -8,7 +8,7 @@ use Rattle.answers.specs.declared.Reason.TheVariants.{Done}
 use Rattle.semantics.specs.Sizes.{names_per_group, table_words}
 use Rattle.print.specs.Sheets.{sheet, put}
 use Rattle.launch.specs.Launch.{Launch, launch}
-use Rattle.launch.specs.AllMade.{launch_done_or_refused}
+use Rattle.launch.proofs.AllMade.{launch_done_or_refused}
 use Rattle.launch_report.specs.Launched.{launched_lines}
 use Rattle.refusal_head.specs.Refusal.{refusal_head}
 use Rattle.refusal_head.specs.Begins.{said-whole}

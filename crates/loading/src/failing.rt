@@ -1,5 +1,6 @@
 // Says why a call of the system failed, and ends as a failed write ends a program. No heap is used.
 ghost use Rattle.std.specs.Prelude.{◌≤◌};
+ghost use Rattle.loading.specs.declared.failing.TheConstants.{TEXT_ROOM};
 
 use std::fmt::Write as _;
 use std::io::Write;
@@ -17,7 +18,7 @@ const PIPE_STATUS: u8 = 141;
 struct Text {
     bytes: [u8; TEXT_ROOM],
     len: usize,
-    ghost fits: { len ≤ 128 },
+    ghost fits: { len ≤ TEXT_ROOM },
 }
 
 impl fmt::Write for Text {

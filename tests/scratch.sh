@@ -18,9 +18,14 @@ crates=$(awk -F: -v top="$library" '
         }
     }' crates.txt)
 
-# Lines of a crate's code with an array of one element or more: its type, or how it is made, of one value or of several.
+# Lines of a crate's code with an array of one element or more that takes room in a call: its type, or how it is made, of one value or of several, or a copy of one that
+# is borrowed. A borrowed array, a static and the name of a type take none.
 arrays() {
-    find "crates/$1/src" -name '*.rt' -exec sed 's,//.*,,' {} + | grep -E '\[[^];[]+; *[^]]*[^] 0]+[^]]*\]|= *\[[^]]*,'
+    local code borrowed
+    code=$(find "crates/$1/src" -name '*.rt' -exec sed 's,//.*,,' {} +)
+    borrowed=$(grep -oE "[a-z_]+: &('[a-z]+ )?(mut )?(\[[^];[]+; *[^]]+\]|Index\b)" <<<"$code" | sed 's/:.*//' | sort -u | paste -sd'|')
+    sed -E "/^(pub )?(static|type) /d; s/&('[a-z]+ )?(mut )?(\[\[[^];[]+; *[^]]+\]\]|\[[^];[]+; *[^]]+\])/\&/g" <<<"$code" |
+        grep -E '\[[^];[]+; *[^]]*[^] 0]+[^]]*\]|= *\[[^]]*,'"${borrowed:+|[=(,] *\*($borrowed)[;,)]}"
 }
 
 bad=0

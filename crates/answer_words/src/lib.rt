@@ -12,15 +12,11 @@ fn first(value: Value) -> u64
     ensures { result ≡ first value }
 {
     match value {
-        Value::Ok => 0,
-        Value::True => 0,
-        Value::False => 0,
-        Value::Error => 0,
-        Value::Undefined => 0,
         Value::Pid(pid) => pid as u64,
         Value::Grouped(name, _) => name as u64,
         Value::Nodes(set, _) => set,
         Value::Listed(count) => count as u64,
+        Value::Ok | Value::True | Value::False | Value::Error | Value::Undefined => 0,
     }
 }
 
@@ -29,19 +25,19 @@ fn second(value: Value) -> u64
     ensures { result ≡ second value }
 {
     match value {
-        Value::Ok => 0,
-        Value::True => 0,
-        Value::False => 0,
-        Value::Error => 0,
-        Value::Undefined => 0,
-        Value::Pid(_) => 0,
         Value::Grouped(_, set) => set,
         Value::Nodes(_, count) => count as u64,
-        Value::Listed(_) => 0,
+        Value::Ok
+        | Value::True
+        | Value::False
+        | Value::Error
+        | Value::Undefined
+        | Value::Pid(_)
+        | Value::Listed(_) => 0,
     }
 }
 
-// Writes an answer into the first words of a run; the number of its reason.
+// Writes an answer into the first words of a run, word by word: no step of a call may have an array. The number of its reason.
 pub fn put(run: &mut [u64], given: Answer) -> u32
     requires { answer_words ≤ length run.old }
     ensures value { result ≡ number given.reason }

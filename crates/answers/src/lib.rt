@@ -25,8 +25,8 @@ pub enum Value {
     Listed(usize),
 }
 
-// Why.
-#[derive(Clone, Copy)]
+// Why, in the order of the numbers.
+#[derive(Clone, Copy, PartialEq, Eq)]
 pub enum Reason {
     Done,
     TableLength,
@@ -84,35 +84,11 @@ pub fn refused(reason: Reason) -> Answer
     said(Value::Error, reason)
 }
 
-// The number that document 01 gives a reason.
+// The number that document 01 gives a reason: its place in the enum.
 pub fn number(reason: Reason) -> u32
     ensures { result ≡ number reason }
 {
-    match reason {
-        Reason::Done => 0,
-        Reason::TableLength => 1,
-        Reason::RosterSize => 2,
-        Reason::Unsound => 3,
-        Reason::CallerUnknown => 4,
-        Reason::GroupNameRange => 5,
-        Reason::NameZero => 6,
-        Reason::NodeUnknown => 7,
-        Reason::GroupUnknown => 8,
-        Reason::NotMember => 9,
-        Reason::NameTaken => 10,
-        Reason::PidTaken => 11,
-        Reason::NotRegistered => 12,
-        Reason::NamespaceFull => 13,
-        Reason::CallerOutside => 14,
-        Reason::GroupTaken => 15,
-        Reason::GroupsFull => 16,
-        Reason::RunShort => 17,
-        Reason::NoLaunchFile => 18,
-        Reason::GroupsDiffer => 19,
-        Reason::AtomUnknown => 20,
-        Reason::HostOutside => 21,
-        Reason::IndexWrong => 22,
-    }
+    reason as u32
 }
 
 // The place of a value's output word among those of document 01, from 1.

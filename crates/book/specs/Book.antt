@@ -1,5 +1,5 @@
 -- The name book of a launch: the lines of a text, and which texts are books. Assumes nothing.
-use Rattle.std.specs.Prelude.{Bool, true, not, ◌&&◌, cond, List, [], ◌∷◌, ℕ, suc, ◌+◌, ◌-◌, eqb, leb, length, get_or, take, drop}
+use Rattle.std.specs.Prelude.{Bool, true, not, ◌&&◌, cond, List, [], ◌∷◌, ℕ, suc, ◌+◌, ◌-◌, eqb, leb, length, get_or, take, drop, Option, Some, None}
 use Rattle.text.specs.Text.{newline}
 use Rattle.tokens.specs.Reserved.{same, among}
 
@@ -56,3 +56,11 @@ group_atoms_of n t = drop n (lines t)
 unfoldable pub place_of : List ℕ → List (List ℕ) → ℕ
 place_of a [] = 0
 place_of a (l ∷ ls) = cond (same a l) 0 (suc (place_of a ls))
+
+-- the place of an atom among lines; none where it is none of them
+unfoldable pub found_among : List ℕ → List (List ℕ) → Option ℕ
+found_among a ls = cond (among ls a) (Some (place_of a ls)) None
+
+-- the number of an atom among the group atoms, from 1; none where it is none of them
+unfoldable pub number_in : ℕ → List ℕ → List ℕ → Option ℕ
+number_in n t a = cond (among (group_atoms_of n t) a) (Some (suc (place_of a (group_atoms_of n t)))) None

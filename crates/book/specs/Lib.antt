@@ -1,5 +1,5 @@
 -- The name book of a launch. `Book` has the definitions, `BookSamples` samples of them; `Index` says what the index of a book holds;
--- `LineLaws`, `PlaceLaws`, `Passing`, `Reading` and `Hinting` are laws. Assumes nothing.
+-- `LineLaws`, `PlaceLaws`, `Passing`, `Reading`, `Hinting` and `Finding` are laws. Assumes nothing.
 pub mod Book
 pub mod BookSamples
 pub mod Index
@@ -8,3 +8,4 @@ pub mod PlaceLaws
 pub mod Passing
 pub mod Reading
 pub mod Hinting
+pub mod Finding

@@ -2,17 +2,15 @@
 // An index of 512 lent bytes is made while a book is tested; it leads from an atom to its line.
 #![tactic(auto)]
 
-ghost use Rattle.std.specs.Prelude.{◌≡◌, true, not, ◌&&◌, [], ◌≤◌, ◌<◌, leb, length, get_or, take};
+ghost use Rattle.std.specs.Prelude.{◌≡◌, true, not, ◌&&◌, [], ◌∷◌, ◌≤◌, ◌<◌, leb, length, get_or, take, IfSome, MatchOption};
 ghost use Rattle.tokens.specs.Reserved.{among};
-ghost use Rattle.book_index.specs.Layout.{index_size, hint_count, with_mark};
-ghost use Rattle.book.specs.Book.{longest_atom, lines, fit, node_atoms, group_atoms_of, place_of};
+ghost use Rattle.book_index.specs.Layout.{hint_count, with_mark};
+ghost use Rattle.book.specs.Book.{longest_atom, lines, fit, node_atoms, group_atoms_of, place_of, found_among, number_in};
 ghost use Rattle.book.specs.Index.{indexed_lines, atom_mark, Holds, Places, Noted, Indexed};
 ghost use Rattle.book.specs.Reading.{Reading};
 
-use book_index::{HINTS, MARKS};
-
-// The bytes of an index.
-pub const INDEX_SIZE: usize = 512;
+pub use book_index::INDEX_SIZE;
+use book_index::{HINTS, Index, MARKS};
 
 // The bytes of the longest atom.
 pub const LONGEST_ATOM: usize = 64;
@@ -25,86 +23,93 @@ const INDEXED_LINES: usize = 126;
 
 const GROUP_NUMBER: usize = 127;
 
+// A book for so many nodes, with its index.
+#[derive(Clone, Copy)]
+pub struct Book<'a> {
+    pub text: &'a [u8],
+    pub nodes: u32,
+    pub index: &'a Index,
+    ghost indexed: { Indexed nodes text.now index.now },
+}
+
+// The first line of a text, and what stands behind its newline; none where the text has no newline.
+fn first_line(text: &[u8]) -> Option<(&[u8], &[u8])>
+    ensures lines { MatchOption result (lines text.now ≡ []) (λ r. lines text.now ≡ r.0.now ∷ lines r.1.now) }
+    ensures less { IfSome result (λ r. length r.1.now < length text.now) }
+{
+    let end = text::find(text, b'\n');
+    if text.len() <= end {
+        return None;
+    }
+    Some((&text[..end], &text[end + 1..]))
+}
+
 // Line i of a book, from 0; empty where there are fewer.
 pub fn line(book: &[u8], i: usize) -> &[u8]
     ensures { result.now ≡ get_or (lines book.now) i [] }
 {
-    let mut t = book;
-    let mut left = i;
-    while left > 0 {
-        let e = text::find(t, b'\n');
-        if t.len() <= e {
-            return &t[e..];
-        }
-        t = &t[e + 1..];
-        left -= 1;
+    let mut rest = book;
+    for _ in 0..i {
+        let Some((_, behind)) = first_line(rest) else {
+            return &[];
+        };
+        rest = behind;
     }
-    let e = text::find(t, b'\n');
-    if t.len() <= e {
-        return &t[e..];
+    match first_line(rest) {
+        Some((line, _)) => line,
+        None => &[],
     }
-    &t[..e]
 }
 
 // The place, from 0, of the first line that is an atom, or the number of lines where none is.
 pub fn seek(book: &[u8], atom: &[u8]) -> usize
     ensures { result ≡ place_of atom.now (lines book.now) }
 {
-    let mut t = book;
+    let mut rest = book;
     let mut i = 0;
-    while 0 < t.len() {
-        let e = text::find(t, b'\n');
-        if t.len() <= e {
+    while let Some((line, behind)) = first_line(rest) {
+        if atoms::same(atom, line) {
             return i;
         }
-        if atoms::same(atom, &t[..e]) {
-            return i;
-        }
-        t = &t[e + 1..];
+        rest = behind;
         i += 1;
     }
     i
 }
 
 // Whether a line of so many bytes is an atom.
-fn is_atom(size: usize) -> bool
+pub fn is_atom(size: usize) -> bool
     ensures { result ≡ leb 1 size && leb size longest_atom }
 {
-    if size < 1 {
-        return false;
-    }
-    size <= LONGEST_ATOM
+    (1..=LONGEST_ATOM).contains(&size)
 }
 
 // Line j of a book, by the places that the index has.
-fn noted<'a>(book: &'a [u8], index: &[u8], j: usize) -> &'a [u8]
-    requires { (length index.now ≡ index_size) × (j < indexed_lines) × Holds book.now index.now j }
+fn noted<'a>(book: &'a [u8], index: &Index, j: usize) -> &'a [u8]
+    requires { (j < indexed_lines) × Holds book.now index.now j }
     ensures { result.now ≡ get_or (lines book.now) j [] }
 {
     let from = book_index::number(index, j);
     let next = book_index::number(index, j + 1);
-    let e = next - 1;
-    &book[from..e]
+    &book[from..next - 1]
 }
 
 // Whether an atom is one of the first `count` lines of a book, by the places that the index has.
-fn among_first(book: &[u8], index: &[u8], count: usize, atom: &[u8]) -> bool
-    requires { (length index.now ≡ index_size) × (count ≤ indexed_lines) × (count ≤ length (lines book.now)) × Places count book.now index.now }
+fn among_first(book: &[u8], index: &Index, count: usize, atom: &[u8]) -> bool
+    requires { (count ≤ indexed_lines) × (count ≤ length (lines book.now)) × Places count book.now index.now }
     ensures { result ≡ among (take count (lines book.now)) atom.now }
 {
-    let mut j = 0;
-    while j < count {
+    for j in 0..count {
         if atoms::same(atom, noted(book, index, j)) {
             return true;
         }
-        j += 1;
     }
     false
 }
 
 // Whether an atom is none of the lines passed, of which there are `count` up to a place; it gets its mark. The rare search has
 // parts, as in `place`.
-fn is_new(book: &[u8], at: usize, count: usize, atom: &[u8], index: &mut [u8]) -> bool
+fn is_new(book: &[u8], at: usize, count: usize, atom: &[u8], index: &mut Index) -> bool
     requires { Reading book.now index.old count at }
     ensures { (result ≡ not (among (lines (take at book.now)) atom.now)) × (index.new ≡ with_mark index.old (atom_mark atom.now)) }
 {
@@ -121,8 +126,7 @@ fn is_new(book: &[u8], at: usize, count: usize, atom: &[u8], index: &mut [u8]) -
 }
 
 // Whether a text is a book for n nodes. Where it is, the numbers of the index are those of the book.
-fn read(book: &[u8], n: u32, index: &mut [u8]) -> bool
-    requires { length index.old ≡ index_size }
+fn read(book: &[u8], n: u32, index: &mut Index) -> bool
     ensures { (result ≡ fit n book.now) × (result ≡ true → Noted n book.now index.new) }
 {
     book_index::clear(index);
@@ -143,7 +147,7 @@ fn read(book: &[u8], n: u32, index: &mut [u8]) -> bool
         i += 1;
         at = e + 1;
         if i <= INDEXED_LINES {
-            book_index::put_number(index, i, at);
+            book_index::put_number(index, i, at as u16);
         }
     }
     let nodes = n as usize;
@@ -154,7 +158,7 @@ fn read(book: &[u8], n: u32, index: &mut [u8]) -> bool
     if GROUP_ATOMS < groups {
         return false;
     }
-    book_index::put_number(index, GROUP_NUMBER, groups);
+    book_index::put_number(index, GROUP_NUMBER, groups as u16);
     true
 }
 
@@ -165,33 +169,23 @@ fn slot_of(atom: &[u8]) -> usize
     atoms::mark_of(atom) as usize % HINTS
 }
 
-// A number that is not above either of two: the lesser one.
-fn least(a: usize, b: usize) -> usize
-    ensures { (result ≤ a) × (result ≤ b) }
-{
-    if a < b { a } else { b }
-}
-
 // Writes a hint for each line whose place the index has.
-fn hint(book: &[u8], n: u32, index: &mut [u8])
+fn hint(book: &[u8], n: u32, index: &mut Index)
     requires { Noted n book.now index.old }
     ensures { Indexed n book.now index.new }
 {
     let count = n as usize + book_index::number(index, GROUP_NUMBER);
-    let last = least(count, INDEXED_LINES);
+    let last = count.min(INDEXED_LINES);
     book_index::clear(index);
-    let mut j = 0;
-    while j < last {
+    for j in 0..last {
         let slot = slot_of(noted(book, index, j));
         let at = book_index::free(index, slot);
-        j += 1;
-        index[at] = j as u8;
+        index[at] = (j + 1) as u8;
     }
 }
 
 // Whether a text is a book for n nodes. Where it is, the index becomes that of the book.
-pub fn fit(book: &[u8], n: u32, index: &mut [u8]) -> bool
-    requires { length index.old ≡ index_size }
+pub fn fit(book: &[u8], n: u32, index: &mut Index) -> bool
     ensures { (result ≡ fit n book.now) × (result ≡ true → Indexed n book.now index.new) }
 {
     if !read(book, n, index) {
@@ -201,71 +195,68 @@ pub fn fit(book: &[u8], n: u32, index: &mut [u8]) -> bool
     true
 }
 
-// The line that an atom is, where a hint leads to it; otherwise INDEXED_LINES.
-fn hinted(book: &[u8], n: u32, index: &[u8], atom: &[u8]) -> usize
-    requires { Indexed n book.now index.now }
-    ensures { result < indexed_lines → (result < length (lines book.now)) × (get_or (lines book.now) result [] ≡ atom.now) }
-{
-    let mut at = slot_of(atom);
-    let mut left = HINTS;
-    while 0 < left {
-        let hint = index[at] as usize;
-        if hint == 0 {
-            return INDEXED_LINES;
+impl Book<'_> {
+    // The line that an atom is, where a hint leads to it.
+    fn hinted(&self, atom: &[u8]) -> Option<usize>
+        ensures { IfSome result (λ j. (j < indexed_lines) × (j < length (lines self.now.text.now)) × (get_or (lines self.now.text.now) j [] ≡ atom.now)) }
+    {
+        let mut at = slot_of(atom);
+        for _ in 0..HINTS {
+            let hint = usize::from(self.index[at]);
+            if hint == 0 {
+                return None;
+            }
+            let j = hint - 1;
+            if atoms::same(atom, noted(self.text, self.index, j)) {
+                return Some(j);
+            }
+            at = (at + 1) % HINTS;
         }
-        let j = hint - 1;
-        if atoms::same(atom, noted(book, index, j)) {
-            return j;
+        None
+    }
+
+    // The place of an atom among all lines, or their number where it is none of them. The rare search has parts that are the
+    // whole runs: handed on as they came, both would lie in memory for its sake, and cost more than the rest.
+    fn place(&self, atom: &[u8]) -> usize
+        ensures { result ≡ place_of atom.now (lines self.now.text.now) }
+    {
+        match self.hinted(atom) {
+            Some(j) => j,
+            None => seek(&self.text[0..], &atom[0..]),
         }
-        at = (at + 1) % HINTS;
-        left -= 1;
     }
-    INDEXED_LINES
-}
 
-// The place of an atom among all lines of a book, or their number where it is none of them. The rare search has parts that
-// are the whole runs: handed on as they came, both would lie in memory for its sake, and cost more than the rest.
-fn place(book: &[u8], n: u32, index: &[u8], atom: &[u8]) -> usize
-    requires { Indexed n book.now index.now }
-    ensures { result ≡ place_of atom.now (lines book.now) }
-{
-    let j = hinted(book, n, index, atom);
-    if j < INDEXED_LINES {
-        return j;
+    // How many group atoms the book has.
+    fn group_count(&self) -> usize
+        ensures { result ≡ length (group_atoms_of self.now.nodes self.now.text.now) }
+    {
+        book_index::number(self.index, GROUP_NUMBER)
     }
-    seek(&book[0..], &atom[0..])
-}
 
-// How many group atoms a book has.
-pub fn group_count(book: &[u8], n: u32, index: &[u8]) -> u32
-    requires { Indexed n book.now index.now }
-    ensures { result ≡ length (group_atoms_of n book.now) }
-{
-    book_index::number(index, GROUP_NUMBER) as u32
-}
-
-// The place of an atom among the node atoms of a book, or n where it is none of them.
-pub fn node_of(book: &[u8], n: u32, index: &[u8], atom: &[u8]) -> u32
-    requires { Indexed n book.now index.now }
-    ensures { result ≡ place_of atom.now (node_atoms n book.now) }
-{
-    let nodes = n as usize;
-    let at = place(book, n, index, atom);
-    if nodes <= at {
-        return n;
+    // The place of an atom among the node atoms; none where it is none of them.
+    pub fn node_of(&self, atom: &[u8]) -> Option<u32>
+        ensures { result ≡ found_among atom.now (node_atoms self.now.nodes self.now.text.now) }
+    {
+        let at = self.place(atom);
+        if self.nodes as usize <= at {
+            return None;
+        }
+        Some(at as u32)
     }
-    at as u32
-}
 
-// The place of an atom among the group atoms of a book, or their number where it is none of them.
-pub fn group_of(book: &[u8], n: u32, index: &[u8], atom: &[u8]) -> u32
-    requires { Indexed n book.now index.now }
-    ensures { result ≡ place_of atom.now (group_atoms_of n book.now) }
-{
-    let nodes = n as usize;
-    let at = place(book, n, index, atom);
-    if at < nodes {
-        return group_count(book, n, index);
+    // The number of an atom among the group atoms, from 1; none where it is none of them.
+    pub fn group_of(&self, atom: &[u8]) -> Option<u16>
+        ensures { result ≡ number_in self.now.nodes self.now.text.now atom.now }
+    {
+        let nodes = self.nodes as usize;
+        let at = self.place(atom);
+        if at < nodes {
+            return None;
+        }
+        let i = at - nodes;
+        if self.group_count() <= i {
+            return None;
+        }
+        Some(i as u16 + 1)
     }
-    (at - nodes) as u32
 }

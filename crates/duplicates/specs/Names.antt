@@ -40,6 +40,10 @@ covered-self (w ∷ ws) = rw (same_refl w) (covered_more ws ws w (covered-self w
 pub equal-self : (ws : List (List ℕ)) → equal_nodes ws ws ≡ true
 equal-self ws = rw (covered-self ws)
 
+-- the same, where two lists are known to be equal
+pub own_nodes : (ws vs : List (List ℕ)) → ws ≡ vs → equal_nodes ws vs ≡ true
+own_nodes ws vs e = rw (e, equal-self vs)
+
 -- ---- a list in two parts
 
 pub named-append : (ks gs : List Group) (w : List ℕ) → named (ks ++ gs) w ≡ named ks w || named gs w

@@ -1,15 +1,12 @@
 -- Worked examples, by computation: what the definitions say of a namespace of two names in four words. Assumes nothing.
-use Rattle.std.specs.Prelude.{◌≡◌, refl, List, [], ◌∷◌, true, false, ℕ, ◌+◌, ◌*◌}
+use Rattle.std.specs.Prelude.{◌≡◌, refl, List, [], ◌∷◌, true, false, ℕ, ◌+◌, ◌*◌, Ok, Err}
 use Rattle.std.proofs.Math.Option.{none, some}
 use Rattle.entries.specs.Entries.{Entry, half_word, pids_per_host, insert, remove, renew, lookup, rank, holds_pid, drop_hosted, words, entries}
 use Rattle.entries.specs.NamespaceSound.{is_ascending, is_distinct, is_hosted, sound_entries, all_zero, sound_words}
 use Rattle.entries.specs.Raw.{narrowed, place, found_at, found, seen_of, pid_answer, opened, add_answer, added, change_of, closed, dropped, replaced}
 use Rattle.entries.specs.Raw.{list_answer, listed, hosted_answer, hosted_dropped}
-use Rattle.entries.specs.declared.Found.TheVariants as find
-use Rattle.entries.specs.declared.Seen.TheVariants as seen
-use Rattle.entries.specs.declared.Held.TheVariants as held
-use Rattle.entries.specs.declared.Change.TheVariants as change
-use Rattle.entries.specs.declared.Counted.TheVariants as counted
+use Rattle.entries.specs.declared.Refusal.TheVariants.{Absent, Full, Unfit}
+use Rattle.entries.specs.declared.Seen.TheVariants.{Inside, Outside}
 
 -- the name n for pid number k of host h
 at : ℕ → ℕ → ℕ → Entry
@@ -72,26 +69,26 @@ spoiled = (refl, refl, refl, refl)
 
 -- ---- words
 
-finds : (found 2 7 run ≡ find.At 1 9) × (found 2 5 run ≡ find.Absent) × (found 5 7 run ≡ find.Unfit) × (pid_answer 2 9 run ≡ held.Yes) × (pid_answer 2 8 run ≡ held.No)
+finds : (found 2 7 run ≡ Ok (1, 9)) × (found 2 5 run ≡ Err Absent) × (found 5 7 run ≡ Err Unfit) × (pid_answer 2 9 run ≡ Ok true) × (pid_answer 2 8 run ≡ Ok false)
 unfolding run word narrowed place found_at found pid_answer entries holds_pid
 finds = (refl, refl, refl, refl, refl)
 
 -- 3 lives on node 1 and 7 on node 0: told by the set of node 0, and by the empty one
-tells : (seen_of 1 (found 2 7 run) ≡ seen.Inside 9) × (seen_of 1 (found 2 3 run) ≡ seen.Outside (1 * pids_per_host + 5)) × (seen_of 0 (found 2 7 run) ≡ seen.Outside 9)
-    × (seen_of 1 (found 2 5 run) ≡ seen.Absent) × (seen_of 1 (found 5 7 run) ≡ seen.Unfit)
+tells : (seen_of 1 (found 2 7 run) ≡ Ok (Inside 9)) × (seen_of 1 (found 2 3 run) ≡ Ok (Outside (1 * pids_per_host + 5))) × (seen_of 0 (found 2 7 run) ≡ Ok (Outside 9))
+    × (seen_of 1 (found 2 5 run) ≡ Err Absent) × (seen_of 1 (found 5 7 run) ≡ Err Unfit)
 unfolding run word narrowed place found_at found
 tells = (refl, refl, refl, refl, refl)
 
-adds : (add_answer 2 run ≡ change.Done) × (added 2 5 1 run ≡ word 3 1 5 ∷ word 5 0 1 ∷ word 7 0 9 ∷ 0 ∷ [])
+adds : (add_answer 2 run ≡ Ok tt) × (added 2 5 1 run ≡ word 3 1 5 ∷ word 5 0 1 ∷ word 7 0 9 ∷ 0 ∷ [])
 unfolding run word narrowed place opened add_answer added
 adds = (refl, refl)
 
 -- a full run, and a count past the end: no word changes
-adds_none : (add_answer 4 run ≡ change.Full) × (added 4 9 1 run ≡ run) × (add_answer 5 run ≡ change.Unfit) × (added 5 9 1 run ≡ run)
+adds_none : (add_answer 4 run ≡ Err Full) × (added 4 9 1 run ≡ run) × (add_answer 5 run ≡ Err Unfit) × (added 5 9 1 run ≡ run)
 unfolding run word narrowed place opened add_answer added
 adds_none = (refl, refl, refl, refl)
 
-drops : (change_of (found 2 3 run) ≡ change.Done) × (dropped 2 3 run ≡ word 7 0 9 ∷ 0 ∷ 0 ∷ 0 ∷ []) × (dropped 2 4 run ≡ run)
+drops : (change_of (found 2 3 run) ≡ Ok tt) × (dropped 2 3 run ≡ word 7 0 9 ∷ 0 ∷ 0 ∷ 0 ∷ []) × (dropped 2 4 run ≡ run)
 unfolding run word narrowed place found_at found closed dropped
 drops = (refl, refl, refl)
 
@@ -100,11 +97,11 @@ unfolding run word narrowed place found_at found replaced
 replaces = (refl, refl)
 
 -- the names with 11 above each, over the first words of a longer run
-lists : (list_answer 2 run (1 ∷ 1 ∷ 1 ∷ []) ≡ counted.Of 2) × (listed 2 11 run (1 ∷ 1 ∷ 1 ∷ []) ≡ (11 * half_word + 3) ∷ (11 * half_word + 7) ∷ 1 ∷ [])
-    × (list_answer 2 run (1 ∷ []) ≡ counted.Unfit) × (listed 2 11 run (1 ∷ []) ≡ 1 ∷ [])
+lists : (list_answer 2 run (1 ∷ 1 ∷ 1 ∷ []) ≡ Ok 2) × (listed 2 11 run (1 ∷ 1 ∷ 1 ∷ []) ≡ (11 * half_word + 3) ∷ (11 * half_word + 7) ∷ 1 ∷ [])
+    × (list_answer 2 run (1 ∷ []) ≡ Err Unfit) × (listed 2 11 run (1 ∷ []) ≡ 1 ∷ [])
 unfolding run word entries list_answer listed
 lists = (refl, refl, refl, refl)
 
-hosts_leave : (hosted_answer 2 2 run ≡ counted.Of 1) × (hosted_dropped 2 2 run ≡ word 7 0 9 ∷ 0 ∷ 0 ∷ 0 ∷ [])
+hosts_leave : (hosted_answer 2 2 run ≡ Ok 1) × (hosted_dropped 2 2 run ≡ word 7 0 9 ∷ 0 ∷ 0 ∷ 0 ∷ [])
 unfolding run word words entries drop_hosted hosted_answer hosted_dropped
 hosts_leave = (refl, refl)

@@ -1,20 +1,19 @@
 -- On the words of a sound namespace the functions of `src/` do what is done with its entries, at every capacity.
 -- Assumes nothing.
-use Rattle.std.specs.Prelude.{◌≡◌, refl, List, [], ◌∷◌, ◌++◌, map, true, false, cond, ◌&&◌, ℕ, zero, suc, ◌+◌, ◌*◌, ◌/◌, ◌%◌, ◌≤◌, ◌<◌, length, get_or, set, take, drop, ltb, leb, eqb}
+use Rattle.std.specs.Prelude.{◌≡◌, refl, List, [], ◌∷◌, ◌++◌, map, true, false, cond, ◌&&◌, ℕ, zero, suc, ◌+◌, ◌*◌, ◌/◌, ◌%◌, ◌≤◌, ◌<◌, length, get_or, set, take, drop, ltb, leb, eqb, Result, Ok, Err}
 use Rattle.std.proofs.Common.{sym, ap, ◌∙◌, ⊎_elim, not-suc-le-zero, le_of_suc-le-suc, arith, lt-ltb, le-ltb, le-leb, leb-true, eq-eqb, ne_eqb}
 use Rattle.std.proofs.Math.Option.{Option, none, some}
 use Rattle.std.proofs.Math.Nat.{suc-sub-suc, sub-zero}
 use Rattle.nodes.specs.Bools.{by_test, by_lt, by_eq}
 use Rattle.entries.specs.Entries.{Entry, half_word, insert, remove, renew, lookup, rank, holds_pid, drop_hosted, word_of, words, entries}
 use Rattle.entries.specs.NamespaceSound.{Ascending, Sound}
-use Rattle.entries.specs.Raw.{place, found_at, found, answer_at, seen_of, lookup_seen, yes_no, pid_answer, opened, add_answer, added, closed, closed_at, dropped, stored_at, replaced, listed_name, list_answer, listed, hosted_answer, hosted_dropped}
+use Rattle.entries.specs.Raw.{place, found_at, found, answer_at, seen_of, lookup_seen, pid_answer, opened, add_answer, added, closed, closed_at, dropped, stored_at, replaced, listed_name, list_answer, listed, hosted_answer, hosted_dropped}
 use Rattle.entries.specs.EntryLaws.{held_or_not, lookup-low, remove_absent, renew-absent}
 use Rattle.entries.specs.NamespaceKept.{length-drop_hosted}
 use Rattle.entries.specs.Storage.{length-words, length-entries, entries-words}
 use Rattle.entries.specs.Search.{narrowed-finds}
-use Rattle.entries.specs.declared.Found.TheVariants as find
-use Rattle.entries.specs.declared.Change.TheVariants as change
-use Rattle.entries.specs.declared.Counted.TheVariants as counted
+use Rattle.entries.specs.declared.Refusal.{Refusal}
+use Rattle.entries.specs.declared.Refusal.TheVariants.{Absent, Full, Unfit}
 
 -- ---- the place of a name
 
@@ -115,7 +114,7 @@ unfolding found found_at
 found-words cap size n es s =
     rw (length-words cap es, le-leb (length es) cap s.room, place_words cap size n es s) (go (lookup n es) refl)
   where
-    go : (o : Option ℕ) → lookup n es ≡ o → cond (ltb (rank n es) (length es) && eqb (get_or (words cap es) (rank n es) 0 / half_word) n) (find.At (rank n es) (get_or (words cap es) (rank n es) 0 % half_word)) find.Absent ≡ answer_at (rank n es) o
+    go : (o : Option ℕ) → lookup n es ≡ o → cond (ltb (rank n es) (length es) && eqb (get_or (words cap es) (rank n es) 0 / half_word) n) (Ok (rank n es, get_or (words cap es) (rank n es) 0 % half_word)) (Err Absent) ≡ answer_at (rank n es) o
     go (some p) h =
         let held = held_at_rank cap 0 n p es s.names s.room h in
         let name : get_or (words cap es) (rank n es) 0 / half_word ≡ n = omega (arith, held.1, held.2) in
@@ -138,7 +137,7 @@ seen-words cap size n set es s = ap (seen_of set) (found-words cap size n es s) 
 
 -- ---- holds_pid
 
-pub pid_answer-words : (cap size p : ℕ) (es : List Entry) → Sound cap size es → pid_answer (length es) p (words cap es) ≡ yes_no (holds_pid p es)
+pub pid_answer-words : (cap size p : ℕ) (es : List Entry) → Sound cap size es → pid_answer (length es) p (words cap es) ≡ Ok (holds_pid p es)
 unfolding pid_answer
 pid_answer-words cap size p es s = rw (length-words cap es, le-leb (length es) cap s.room, entries-words cap size es s)
 
@@ -169,7 +168,7 @@ opened-words (suc cap) lo e (f ∷ fs) s a h =
     (by_eq f.name e.name))
     (by_lt e.name f.name)
 
-pub add_answer-words : (cap size : ℕ) (es : List Entry) → Sound cap size es → add_answer (length es) (words cap es) ≡ cond (ltb (length es) cap) change.Done change.Full
+pub add_answer-words : (cap size : ℕ) (es : List Entry) → Sound cap size es → add_answer (length es) (words cap es) ≡ cond (ltb (length es) cap) (Ok tt) (Err Full)
 unfolding add_answer
 add_answer-words cap size es s = rw (length-words cap es, le-leb (length es) cap s.room)
 
@@ -244,7 +243,7 @@ replaced-words cap size n p es s = rw (found-words cap size n es s) (go (lookup 
 -- ---- list_names
 
 pub list_answer-words : (cap size : ℕ) (es : List Entry) (out : List ℕ) → Sound cap size es
-    → list_answer (length es) (words cap es) out ≡ cond (leb (length es) (length out)) (counted.Of (length es)) counted.Unfit
+    → list_answer (length es) (words cap es) out ≡ cond (leb (length es) (length out)) (Ok (length es)) (Err Unfit)
 unfolding list_answer
 list_answer-words cap size es out s = rw (length-words cap es, le-leb (length es) cap s.room)
 
@@ -266,7 +265,7 @@ shorter (suc cap) [] (e ∷ es) h k = ap (λ (ws : List ℕ). 0 ∷ ws) (shorter
 shorter (suc cap) (f ∷ fs) (e ∷ es) h k = ap (λ (ws : List ℕ). word_of f ∷ ws) (shorter cap fs es (omega arith) (omega arith))
 
 pub hosted_answer-words : (cap size hosts : ℕ) (es : List Entry) → Sound cap size es
-    → hosted_answer (length es) hosts (words cap es) ≡ counted.Of (length (drop_hosted hosts es))
+    → hosted_answer (length es) hosts (words cap es) ≡ Ok (length (drop_hosted hosts es))
 unfolding hosted_answer
 hosted_answer-words cap size hosts es s = rw (length-words cap es, le-leb (length es) cap s.room, entries-words cap size es s)
 
@@ -277,16 +276,15 @@ hosted_dropped-words cap size hosts es s =
     (shorter cap (drop_hosted hosts es) es (length-drop_hosted hosts es) s.room)
 
 -- no more are left than there were, and no more were there than words
-pub hosted_few : (count hosts kept : ℕ) (ws : List ℕ) → counted.Of kept ≡ hosted_answer count hosts ws → (kept ≤ count) × (count ≤ length ws)
+pub hosted_few : (count hosts kept : ℕ) (ws : List ℕ) → Ok kept ≡ hosted_answer count hosts ws → (kept ≤ count) × (count ≤ length ws)
 unfolding hosted_answer
 hosted_few count hosts kept ws e =
     ⊎_elim
     (λ (q : leb count (length ws) ≡ true).
-    let same : counted.Of kept ≡ counted.Of (length (drop_hosted hosts (entries count ws))) = rw q at e in
+    let same : ◌≡◌ {A = Result ℕ Refusal} (Ok kept) (Ok (length (drop_hosted hosts (entries count ws)))) = rw q at e in
     let many : kept ≡ length (drop_hosted hosts (entries count ws)) = cc in
     let room : count ≤ length ws = leb-true count (length ws) q in
     (omega (arith, length-drop_hosted hosts (entries count ws), length-entries count ws room), room))
     (λ (q : leb count (length ws) ≡ false).
-    let same : counted.Of kept ≡ counted.Unfit = rw q at e in
-    let z : ◌≡◌ {A = ℕ} 0 1 = cc in absurd (omega arith))
+    let same : ◌≡◌ {A = Result ℕ Refusal} (Ok kept) (Err Unfit) = rw q at e in absurd (grind arith))
     (by_test (leb count (length ws)))

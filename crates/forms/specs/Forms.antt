@@ -1,12 +1,11 @@
 -- The fifteen commands as a script writes them, and the number of each: its place in this list, from 1. Assumes nothing.
 use Rattle.std.specs.Prelude.{Bool, true, false, ◌&&◌, cond, List, [], ◌∷◌, ℕ, suc, eqb}
+use Rattle.std.specs.Prelude as Prelude
 use Rattle.std.proofs.Math.Option.{Option, none, some}
 use Rattle.commands.specs.declared.Command.{Command}
 use Rattle.commands.specs.declared.Command.TheVariants.{RegisterName, ReRegisterName, UnregisterName, RegisteredNames, WhereisName, WhereisNameAt, Send, SendName, SendAt, NewSGroup, AddNodes, RemoveNodes, DeleteSGroup, OwnNodes, OwnSGroups}
 use Rattle.semantics.specs.Test.{same}
 use Rattle.text.specs.Text.{bytes}
-use Rattle.forms.specs.declared.Formed.{Formed}
-use Rattle.forms.specs.declared.Formed.TheVariants.{Is, Nothing}
 
 -- a command word with a number of arguments; whether the second is a set of nodes, of 64 bits; the command that it is: its arguments of 32 bits
 -- are a, b and c in their order, and set is the set of nodes
@@ -62,12 +61,12 @@ unfoldable pub form_of : ℕ → Option Form
 form_of number = form_from 1 number forms
 
 -- a form's command with its arguments
-abbrev pub filled : Option Form → (a b c set : ℕ) → Formed
-filled none a b c set = Nothing
-filled (some f) a b c set = Is (f.command a b c set)
+abbrev pub filled : Option Form → (a b c set : ℕ) → Prelude.Option Command
+filled none a b c set = Prelude.None
+filled (some f) a b c set = Prelude.Some (f.command a b c set)
 
 -- the command of a number with its arguments
-unfoldable pub command_of : (number a b c set : ℕ) → Formed
+unfoldable pub command_of : (number a b c set : ℕ) → Prelude.Option Command
 command_of number = filled (form_of number)
 
 -- whether a form takes a set of nodes

@@ -1,12 +1,16 @@
 -- The command words by name, and laws of comparing bytes with them. Assumes nothing.
-use Rattle.std.specs.Prelude.{◌≡◌, refl, Bool, true, false, ◌&&◌, cond, List, [], ◌∷◌, ℕ, eqb}
-use Rattle.std.proofs.Common.{sym, ◌∙◌, arith, eqb-true, eq-eqb, ne_eqb}
+use Rattle.std.specs.Prelude.{◌≡◌, refl, Bool, true, false, List, ℕ, eqb, Option, Some, None}
+use Rattle.std.specs.Cmp.Lexicographic.{pointwise}
+use Rattle.std.proofs.Common.{ap, sym, ◌∙◌}
+use Rattle.std.proofs.lemmas.Slice.Eq.{bytes_eq-Decides}
 use Rattle.semantics.specs.Test.{same}
+use Rattle.semantics.specs.TestLaws.{same-iff}
 use Rattle.text.specs.Text.{bytes}
+use Rattle.forms.specs.Forms.{number_of}
 use Rattle.forms.specs.declared.Word.{Word}
-use Rattle.forms.specs.declared.Word.TheVariants.{RegisterName, ReRegisterName, UnregisterName, RegisteredNames, WhereisName, Send, NewSGroup, AddNodes, RemoveNodes, DeleteSGroup, OwnNodes, OwnSGroups, Other}
+use Rattle.forms.specs.declared.Word.TheVariants.{RegisterName, ReRegisterName, UnregisterName, RegisteredNames, WhereisName, Send, NewSGroup, AddNodes, RemoveNodes, DeleteSGroup, OwnNodes, OwnSGroups}
 
--- the bytes of a command word; no word stands for all others
+-- the bytes of a command word
 abbrev pub spelt : Word → List ℕ
 spelt RegisterName = bytes "register_name"
 spelt ReRegisterName = bytes "re_register_name"
@@ -20,33 +24,26 @@ spelt RemoveNodes = bytes "remove_nodes"
 spelt DeleteSGroup = bytes "delete_s_group"
 spelt OwnNodes = bytes "own_nodes"
 spelt OwnSGroups = bytes "own_s_groups"
-spelt Other = []
 
--- the test holds of equal words alone
-pub same_eq : (s w : List ℕ) → same s w ≡ true → s ≡ w
-same_eq [] [] h = refl
-same_eq [] (y ∷ ys) h = absurd (let z : ◌≡◌ {A = ℕ} 0 1 = cc in omega arith)
-same_eq (x ∷ xs) [] h = absurd (let z : ◌≡◌ {A = ℕ} 0 1 = cc in omega arith)
-same_eq (x ∷ xs) (y ∷ ys) h = go (eqb x y) refl h (same_eq xs ys)
-  where
-    go : (t : Bool) → eqb x y ≡ t → (t && same xs ys) ≡ true → (same xs ys ≡ true → xs ≡ ys) → x ∷ xs ≡ y ∷ ys
-    go true e f g = let p : x ≡ y = eqb-true x y e in let q : xs ≡ ys = g f in cc
-    go false e f g = absurd (let z : ◌≡◌ {A = ℕ} 0 1 = cc in omega arith)
+-- the number of the command with a word, where there is one, and so many arguments
+abbrev pub number_with : Option Word → ℕ → ℕ
+number_with None n = 0
+number_with (Some w) n = number_of (spelt w) n
 
 -- a comparison that fails, by what it says of equal words
 pub differs : (s w : List ℕ) (r : Bool) → r ≡ false → (s ≡ w → r ≡ true) → same s w ≡ false
 differs s w r e f = go (same s w) refl
   where
     go : (t : Bool) → same s w ≡ t → t ≡ false
-    go true q = sym (f (same_eq s w q)) ∙ e
+    go true q = sym (f ((same-iff s w).0 q)) ∙ e
     go false q = refl
 
--- ---- a command with one form
+-- ---- bytes s are compared with v, which holds a word
 
--- so many arguments are right
-pub counted : (n k number : ℕ) → n ≡ k → number ≡ cond (eqb n k) number 0
-counted n k number e = rw (eq-eqb n k e)
+-- they are that word
+pub named : (s w v : List ℕ) (r : Bool) (n : ℕ) → v ≡ w → r ≡ pointwise eqb s v → r ≡ true → number_of s n ≡ number_of w n
+named s w v r n e f h = ap (λ (x : List ℕ). number_of x n) ((bytes_eq-Decides s v).0 (sym f ∙ h) ∙ e)
 
--- so many are not
-pub miscounted : (n k number : ℕ) → (n ≡ k → ⊥) → 0 ≡ cond (eqb n k) number 0
-miscounted n k number e = rw (ne_eqb n k e)
+-- they are not
+pub unnamed : (s w v : List ℕ) (r : Bool) → v ≡ w → r ≡ pointwise eqb s v → r ≡ false → same s w ≡ false
+unnamed s w v r e f h = differs s w r h (λ q. f ∙ (bytes_eq-Decides s v).1 (q ∙ sym e))

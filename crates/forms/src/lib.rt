@@ -1,13 +1,14 @@
 // The fifteen commands as a script writes them: the number of a command by its word and how many arguments it has, and the command of a number.
 #![tactic(auto)]
 
-ghost use Rattle.std.specs.Prelude.{◌≡◌, cond, ℕ, eqb};
+ghost use Rattle.std.specs.Prelude.{◌≡◌, ℕ};
 ghost use Rattle.forms.specs.Forms.{number_of, command_of, takes_set};
-ghost use Rattle.forms.specs.Words.{spelt};
+ghost use Rattle.forms.specs.Words.{spelt, number_with};
 
 use commands::Command;
 
-// The numbers of the commands, in document 01's order.
+// The numbers of the commands, in document 01's order. Numbers and not an enum, since the functions below take every number: a narrower parameter would ask
+// more of their callers.
 pub const REGISTER_NAME: u32 = 1;
 
 pub const RE_REGISTER_NAME: u32 = 2;
@@ -41,14 +42,7 @@ pub const OWN_S_GROUPS: u32 = 15;
 // The number of no command.
 pub const NONE: u32 = 0;
 
-// The command of a number, or none.
-#[derive(Clone, Copy)]
-pub enum Formed {
-    Is(Command),
-    Nothing,
-}
-
-// A command word, or none of them.
+// A command word.
 #[derive(Clone, Copy)]
 enum Word {
     RegisterName,
@@ -63,128 +57,65 @@ enum Word {
     DeleteSGroup,
     OwnNodes,
     OwnSGroups,
-    Other,
 }
 
-// The command word that s is.
-fn word_of(s: &[u8]) -> Word
-    ensures { (n : ℕ) → number_of s.now n ≡ number_of (spelt result) n }
+// The command word that s is. By comparisons: a match on byte strings leaves over a hundred cases of its last arm open (tried).
+fn word_of(s: &[u8]) -> Option<Word>
+    ensures { (n : ℕ) → number_of s.now n ≡ number_with result n }
 {
-    if check::same(s, b"register_name") {
-        Word::RegisterName
-    } else if check::same(s, b"re_register_name") {
-        Word::ReRegisterName
-    } else if check::same(s, b"unregister_name") {
-        Word::UnregisterName
-    } else if check::same(s, b"registered_names") {
-        Word::RegisteredNames
-    } else if check::same(s, b"whereis_name") {
-        Word::WhereisName
-    } else if check::same(s, b"send") {
-        Word::Send
-    } else if check::same(s, b"new_s_group") {
-        Word::NewSGroup
-    } else if check::same(s, b"add_nodes") {
-        Word::AddNodes
-    } else if check::same(s, b"remove_nodes") {
-        Word::RemoveNodes
-    } else if check::same(s, b"delete_s_group") {
-        Word::DeleteSGroup
-    } else if check::same(s, b"own_nodes") {
-        Word::OwnNodes
-    } else if check::same(s, b"own_s_groups") {
-        Word::OwnSGroups
+    if s == b"register_name".as_slice() {
+        Some(Word::RegisterName)
+    } else if s == b"re_register_name".as_slice() {
+        Some(Word::ReRegisterName)
+    } else if s == b"unregister_name".as_slice() {
+        Some(Word::UnregisterName)
+    } else if s == b"registered_names".as_slice() {
+        Some(Word::RegisteredNames)
+    } else if s == b"whereis_name".as_slice() {
+        Some(Word::WhereisName)
+    } else if s == b"send".as_slice() {
+        Some(Word::Send)
+    } else if s == b"new_s_group".as_slice() {
+        Some(Word::NewSGroup)
+    } else if s == b"add_nodes".as_slice() {
+        Some(Word::AddNodes)
+    } else if s == b"remove_nodes".as_slice() {
+        Some(Word::RemoveNodes)
+    } else if s == b"delete_s_group".as_slice() {
+        Some(Word::DeleteSGroup)
+    } else if s == b"own_nodes".as_slice() {
+        Some(Word::OwnNodes)
+    } else if s == b"own_s_groups".as_slice() {
+        Some(Word::OwnSGroups)
     } else {
-        Word::Other
-    }
-}
-
-// The number of a command that takes no argument, by how many are given.
-fn bare(arguments: usize, number: u32) -> u32
-    ensures { result ≡ cond (eqb arguments 0) number 0 }
-{
-    match arguments {
-        0 => number,
-        _ => NONE,
-    }
-}
-
-// The number of a command that takes one argument.
-fn with_one(arguments: usize, number: u32) -> u32
-    ensures { result ≡ cond (eqb arguments 1) number 0 }
-{
-    match arguments {
-        0 => NONE,
-        1 => number,
-        _ => NONE,
-    }
-}
-
-// The number of a command that takes two arguments.
-fn with_two(arguments: usize, number: u32) -> u32
-    ensures { result ≡ cond (eqb arguments 2) number 0 }
-{
-    match arguments {
-        0..=1 => NONE,
-        2 => number,
-        _ => NONE,
-    }
-}
-
-// The number of a command that takes three arguments.
-fn with_three(arguments: usize, number: u32) -> u32
-    ensures { result ≡ cond (eqb arguments 3) number 0 }
-{
-    match arguments {
-        0..=2 => NONE,
-        3 => number,
-        _ => NONE,
-    }
-}
-
-// The number of a lookup, which has two forms.
-fn lookup(arguments: usize) -> u32
-    ensures { result ≡ number_of (spelt Word.WhereisName) arguments }
-{
-    match arguments {
-        0..=1 => NONE,
-        2 => WHEREIS_NAME,
-        3 => WHEREIS_NAME_AT,
-        _ => NONE,
-    }
-}
-
-// The number of a send, which has three.
-fn sending(arguments: usize) -> u32
-    ensures { result ≡ number_of (spelt Word.Send) arguments }
-{
-    match arguments {
-        0 => NONE,
-        1 => SEND,
-        2 => SEND_NAME,
-        3 => SEND_AT,
-        _ => NONE,
+        None
     }
 }
 
 // The number of the command with a word and so many arguments.
+#[tactic(auto, unfolding(crate::specs::Forms::number_of, crate::specs::Forms::number_from, crate::specs::Forms::forms))]
 fn number_by(word: Word, arguments: usize) -> u32
     ensures { result ≡ number_of (spelt word) arguments }
 {
-    match word {
-        Word::RegisterName => with_three(arguments, REGISTER_NAME),
-        Word::ReRegisterName => with_three(arguments, RE_REGISTER_NAME),
-        Word::UnregisterName => with_two(arguments, UNREGISTER_NAME),
-        Word::RegisteredNames => with_one(arguments, REGISTERED_NAMES),
-        Word::WhereisName => lookup(arguments),
-        Word::Send => sending(arguments),
-        Word::NewSGroup => with_two(arguments, NEW_S_GROUP),
-        Word::AddNodes => with_two(arguments, ADD_NODES),
-        Word::RemoveNodes => with_two(arguments, REMOVE_NODES),
-        Word::DeleteSGroup => with_one(arguments, DELETE_S_GROUP),
-        Word::OwnNodes => bare(arguments, OWN_NODES),
-        Word::OwnSGroups => bare(arguments, OWN_S_GROUPS),
-        Word::Other => NONE,
+    match (word, arguments) {
+        (Word::RegisterName, 3) => REGISTER_NAME,
+        (Word::ReRegisterName, 3) => RE_REGISTER_NAME,
+        (Word::UnregisterName, 2) => UNREGISTER_NAME,
+        (Word::RegisteredNames, 1) => REGISTERED_NAMES,
+        (Word::WhereisName, 2) => WHEREIS_NAME,
+        (Word::WhereisName, 3) => WHEREIS_NAME_AT,
+        (Word::Send, 1) => SEND,
+        (Word::Send, 2) => SEND_NAME,
+        (Word::Send, 3) => SEND_AT,
+        (Word::NewSGroup, 2) => NEW_S_GROUP,
+        (Word::AddNodes, 2) => ADD_NODES,
+        (Word::RemoveNodes, 2) => REMOVE_NODES,
+        (Word::DeleteSGroup, 1) => DELETE_S_GROUP,
+        (Word::OwnNodes, 0) => OWN_NODES,
+        (Word::OwnSGroups, 0) => OWN_S_GROUPS,
+        // no command of this word has so many
+        (_, 0..=3) => NONE,
+        (_, 4..) => NONE,
     }
 }
 
@@ -192,47 +123,50 @@ fn number_by(word: Word, arguments: usize) -> u32
 pub fn number(s: &[u8], arguments: usize) -> u32
     ensures { result ≡ number_of s.now arguments }
 {
-    number_by(word_of(s), arguments)
+    match word_of(s) {
+        Some(word) => number_by(word, arguments),
+        None => NONE,
+    }
 }
 
 // The command of a number: its arguments of 32 bits are a, b and c in their order, and set is its set of nodes.
-pub fn command_of(number: u32, a: u32, b: u32, c: u32, set: u64) -> Formed
+#[tactic(auto, unfolding(crate::specs::Forms::command_of, crate::specs::Forms::form_of, crate::specs::Forms::form_from, crate::specs::Forms::forms))]
+pub fn command_of(number: u32, a: u32, b: u32, c: u32, set: u64) -> Option<Command>
     ensures { result ≡ command_of number a b c set }
 {
-    match number {
-        REGISTER_NAME => Formed::Is(Command::RegisterName { s: a, n: b, p: c }),
-        RE_REGISTER_NAME => Formed::Is(Command::ReRegisterName { s: a, n: b, p: c }),
-        UNREGISTER_NAME => Formed::Is(Command::UnregisterName { s: a, n: b }),
-        REGISTERED_NAMES => Formed::Is(Command::RegisteredNames { s: a }),
-        WHEREIS_NAME => Formed::Is(Command::WhereisName { s: a, n: b }),
-        WHEREIS_NAME_AT => Formed::Is(Command::WhereisNameAt {
+    let command = match number {
+        REGISTER_NAME => Command::RegisterName { s: a, n: b, p: c },
+        RE_REGISTER_NAME => Command::ReRegisterName { s: a, n: b, p: c },
+        UNREGISTER_NAME => Command::UnregisterName { s: a, n: b },
+        REGISTERED_NAMES => Command::RegisteredNames { s: a },
+        WHEREIS_NAME => Command::WhereisName { s: a, n: b },
+        WHEREIS_NAME_AT => Command::WhereisNameAt {
             node: a,
             s: b,
             n: c,
-        }),
-        SEND => Formed::Is(Command::Send { p: a }),
-        SEND_NAME => Formed::Is(Command::SendName { s: a, n: b }),
-        SEND_AT => Formed::Is(Command::SendAt {
+        },
+        SEND => Command::Send { p: a },
+        SEND_NAME => Command::SendName { s: a, n: b },
+        SEND_AT => Command::SendAt {
             node: a,
             s: b,
             n: c,
-        }),
-        NEW_S_GROUP => Formed::Is(Command::NewSGroup { s: a, set: set }),
-        ADD_NODES => Formed::Is(Command::AddNodes { s: a, set: set }),
-        REMOVE_NODES => Formed::Is(Command::RemoveNodes { s: a, set: set }),
-        DELETE_S_GROUP => Formed::Is(Command::DeleteSGroup { s: a }),
-        OWN_NODES => Formed::Is(Command::OwnNodes),
-        OWN_S_GROUPS => Formed::Is(Command::OwnSGroups),
-        _ => Formed::Nothing,
-    }
+        },
+        NEW_S_GROUP => Command::NewSGroup { s: a, set },
+        ADD_NODES => Command::AddNodes { s: a, set },
+        REMOVE_NODES => Command::RemoveNodes { s: a, set },
+        DELETE_S_GROUP => Command::DeleteSGroup { s: a },
+        OWN_NODES => Command::OwnNodes,
+        OWN_S_GROUPS => Command::OwnSGroups,
+        _ => return None,
+    };
+    Some(command)
 }
 
 // Whether the command of a number takes a set of nodes.
+#[tactic(auto, unfolding(crate::specs::Forms::takes_set, crate::specs::Forms::form_of, crate::specs::Forms::form_from, crate::specs::Forms::forms))]
 pub fn takes_set(number: u32) -> bool
     ensures { result ≡ takes_set number }
 {
-    match number {
-        NEW_S_GROUP | ADD_NODES | REMOVE_NODES => true,
-        _ => false,
-    }
+    matches!(number, NEW_S_GROUP | ADD_NODES | REMOVE_NODES)
 }

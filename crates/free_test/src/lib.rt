@@ -7,7 +7,7 @@ ghost use Rattle.semantics.specs.Test.{freely};
 ghost use Rattle.free_test.specs.WireTests.{all_zero, all_of, members_met, own_free, is_lowest, free_sound};
 ghost use Rattle.free_test.specs.Knowing.{Known, knows_all};
 
-use nodes::{NODE_LIMIT, diff, lowest, rest, subset, without, word_at};
+use nodes::{Members, NODE_LIMIT, diff, lowest, subset, without, word_at};
 
 // How many words a run has.
 pub const NODE_WORDS: usize = NODE_LIMIT as usize;
@@ -17,8 +17,8 @@ pub fn all_zero(words: &[u64]) -> bool
     ensures { result ≡ all_zero words.now }
 {
     let mut all: u64 = 0;
-    for i in 0..words.len() {
-        all = all | words[i];
+    for word in words {
+        all |= *word;
     }
     all == 0
 }
@@ -27,22 +27,18 @@ pub fn all_zero(words: &[u64]) -> bool
 pub fn members_met(links: &[u64], set: u64) -> bool
     ensures { result ≡ members_met links.now set }
 {
-    if links.len() != NODE_WORDS {
+    let Some(links) = links.as_array::<NODE_WORDS>() else {
         return false;
-    }
+    };
     let mut missed: u64 = 0;
-    let mut left = set;
-    while left != 0 {
-        let i = lowest(left);
-        missed = missed | diff(without(set, i), links[i as usize]);
-        left = rest(left);
+    for i in Members(set) {
+        missed |= diff(without(set, i), links[i as usize]);
     }
     missed == 0
 }
 
 // Writes the connections of each node with the node itself among them.
-pub fn know(links: &[u64], known: &mut [u64])
-    requires { (length links.now ≡ node_limit) × (length known.old ≡ node_limit) }
+pub fn know(links: &[u64; NODE_WORDS], known: &mut [u64; NODE_WORDS])
     ensures { Known links.now known.new }
 {
     for i in 0..NODE_WORDS {
@@ -51,15 +47,12 @@ pub fn know(links: &[u64], known: &mut [u64])
 }
 
 // Whether each member of the set knows all members.
-pub fn known_met(known: &[u64], set: u64) -> bool
-    requires { length known.now ≡ node_limit }
+pub fn known_met(known: &[u64; NODE_WORDS], set: u64) -> bool
     ensures { result ≡ all_of set (knows_all known.now set) }
 {
     let mut common: u64 = !0;
-    let mut left = set;
-    while left != 0 {
-        common = common & known[lowest(left) as usize];
-        left = rest(left);
+    for i in Members(set) {
+        common &= known[i as usize];
     }
     subset(set, common)
 }
@@ -77,28 +70,25 @@ fn freely(loose: u64, i: usize, word: u64) -> u64
 }
 
 // Whether each of the first n words is the free normal group that the connections give.
-fn own_free(links: &[u64], free: &[u64], loose: u64, n: usize) -> bool
-    requires { (length links.now ≡ node_limit) × (length free.now ≡ node_limit) × (n ≤ node_limit) }
+fn own_free(links: &[u64; NODE_WORDS], free: &[u64; NODE_WORDS], loose: u64, n: usize) -> bool
+    requires { n ≤ node_limit }
     ensures { result ≡ own_free links.now free.now loose n }
 {
     let mut off: u64 = 0;
     for i in 0..n {
-        off = off | (free[i] ^ freely(loose, i, links[i]));
+        off |= free[i] ^ freely(loose, i, links[i]);
     }
     off == 0
 }
 
 // Whether the word of each node of the set is that of its lowest node.
-fn own_lowest(free: &[u64], set: u64) -> bool
-    requires { length free.now ≡ node_limit }
+fn own_lowest(free: &[u64; NODE_WORDS], set: u64) -> bool
     ensures { result ≡ all_of set (is_lowest free.now) }
 {
     let mut off: u64 = 0;
-    let mut left = set;
-    while left != 0 {
-        let group = free[lowest(left) as usize];
-        off = off | (word_at(free, lowest(group) as usize) ^ group);
-        left = rest(left);
+    for i in Members(set) {
+        let group = free[i as usize];
+        off |= word_at(free, lowest(group) as usize) ^ group;
     }
     off == 0
 }
@@ -107,12 +97,12 @@ fn own_lowest(free: &[u64], set: u64) -> bool
 pub fn free_sound<'a>(links: &'a [u64], free: &'a [u64], loose: u64, n: u32) -> bool
     ensures { result ≡ free_sound links.now free.now loose n }
 {
-    if links.len() != NODE_WORDS {
+    let Some(links) = links.as_array::<NODE_WORDS>() else {
         return false;
-    }
-    if free.len() != NODE_WORDS {
+    };
+    let Some(free) = free.as_array::<NODE_WORDS>() else {
         return false;
-    }
+    };
     if n > NODE_LIMIT {
         return false;
     }

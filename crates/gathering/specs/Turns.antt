@@ -1,45 +1,29 @@
 -- The groups are taken one after another: what is known between two of them, what each turn makes of it, and what holds at the end. Assumes nothing.
-use Rattle.std.specs.Prelude.{◌≡◌, refl, Bool, false, ℕ, zero, suc, ◌+◌, ◌*◌, ◌≤◌, ◌<◌, eqb, length, take, set, get_or}
-use Rattle.std.proofs.Math.Path.{sym, ap}
-use Rattle.std.proofs.Common.{◌∙◌, ⊎_elim, arith}
-use Rattle.std.proofs.Math.Bool.{true}
-use mathlib.Core.List.{List, [], ◌∷◌, ◌++◌, append_assoc, append-nil}
-use borrow.Author.Tests.{lt-ltb, le-ltb, eq-eqb}
-use Rattle.std.proofs.Math.ListN.{length-append, length-set}
-use Rattle.pairs.specs.Woven.{woven, woven-first}
-use Rattle.nodes.specs.Bools.{by_lt}
+use Rattle.std.specs.Prelude.{◌≡◌, refl, Bool, true, false, List, [], ◌∷◌, ◌++◌, ℕ, suc, ◌+◌, ◌≤◌, ◌<◌, eqb, length, take, set, get_or, Ok, Some}
+use Rattle.std.proofs.Common.{sym, ap, ◌∙◌, arith, le-ltb, take-suc-set, length-set, length-append, append_assoc, append-nil}
+use borrow.Author.Tests.{eq-eqb}
+use Rattle.pairs.specs.declared.Made.{Made}
+use Rattle.pairs.specs.Woven.{woven, woven-append}
 use Rattle.semantics.specs.Sizes.{group_limit}
 use Rattle.tokens.specs.Reserved.{same}
 use Rattle.tokens.specs.Words.{same_eq}
+use Rattle.tokens.specs.declared.Atom.{Atom}
 use Rattle.grammar.specs.File.{Group}
 use Rattle.walk.specs.Walk.{part, head_at, entry_at}
 use Rattle.walk.specs.Groups.{nodes, groups_from, groups, pass_groups_from, pass_groups}
 use Rattle.walk.specs.Unfold.{groups-unfold, pass_groups-unfold}
-use Rattle.walk.specs.declared.Atom.TheVariants as Atom
-use Rattle.walk.specs.declared.Entry.TheVariants as Entry
-use Rattle.book.specs.Book.{lines, place_of, group_atoms_of}
-use Rattle.book.specs.PlaceLaws.{place-among}
+use Rattle.walk.specs.declared.Entry.{Entry}
+use Rattle.book.specs.Book.{lines, place_of, group_atoms_of, number_in}
+use Rattle.book.specs.Finding.{number_some}
 use Rattle.duplicates.specs.Duplicates.{named}
 use Rattle.duplicates.specs.Names.{neither, apart, apart_snoc, apart-kept, apart-clash}
 use Rattle.plan.specs.Plan.{number_of, listed, all_listed, plan_words, fitting, verdict}
-use Rattle.plan.specs.Looked.{woven-room, woven-put}
-use Rattle.plan.specs.Turns.{all_listed-append, plan_words-append, put-more}
-use Rattle.plan.proofs.Creatable.{words_at}
+use Rattle.plan.specs.Turns.{all_listed-append, plan_words-append}
 use Rattle.gathering.specs.Gathering.{seen, Noded, Planned}
 
 -- ---- a number that was not seen
 
--- is none of the first ones
-unseen-at : (numbers : List ℕ) (k m i : ℕ) → seen numbers k m ≡ false → i < k → eqb (get_or numbers i 0) m ≡ false
-unfolding seen
-unseen-at numbers zero m i h l = absurd (omega arith)
-unseen-at numbers (suc k) m i h l =
-    let (p, q) = neither (seen numbers k m) (eqb (get_or numbers k 0) m) h in
-    ⊎_elim (λ (b : i < k). unseen-at numbers k m i p b) (λ (b : k ≤ i). let e : i ≡ k = omega arith in rw e q) (by_lt i k)
-
--- so no group whose words are written has the name
-module _ (N : ℕ) (book numbers sets : List ℕ) (both : length numbers ≡ length sets) (k : ℕ) (room : k ≤ length numbers) (g : Group)
-    (new : seen numbers k (number_of N book g) ≡ false) where
+module _ (N : ℕ) (book : List ℕ) (g : Group) where
   other : (x : Group) → eqb (number_of N book x) (number_of N book g) ≡ false → same x.name g.name ≡ false
   other x h = go (same x.name g.name) refl
     where
@@ -49,22 +33,26 @@ module _ (N : ℕ) (book numbers sets : List ℕ) (both : length numbers ≡ len
           sym (eq-eqb (number_of N book x) (number_of N book g) n) ∙ h
       go false e = refl
 
-  unnamed : (ks gs : List Group) → length (ks ++ gs) ≡ k → take (2 * k) (woven numbers sets) ≡ plan_words N book (ks ++ gs) → named gs g.name ≡ false
-  unnamed ks [] n e = refl
-  unnamed ks (x ∷ gs) n e =
-      let l : length ks < k = omega (arith, length-append ks (x ∷ gs)) in
-      let at = sym (woven-first numbers sets (length ks) both (omega arith)) ∙ (words_at N book ks x gs (woven numbers sets) k (length ks) e refl l).0 in
-      let one : eqb (number_of N book x) (number_of N book g) ≡ false = rw at at (unseen-at numbers k (number_of N book g) (length ks) new l) in
-      rw (other x one) (unnamed (ks ++ (x ∷ [])) gs (rw append_assoc n) (rw append_assoc e))
+  -- so none of the groups that are written has the name
+  unnamed : (ms : List Made) (gs : List Group) → woven ms ≡ plan_words N book gs → seen ms (number_of N book g) ≡ false → named gs g.name ≡ false
+  unfolding woven plan_words
+  unnamed [] [] w h = refl
+  unnamed [] (x ∷ gs) w h = cc
+  unnamed (m ∷ ms) [] w h = cc
+  unnamed (m ∷ ms) (x ∷ gs) w h =
+      let (p, q) = neither (eqb m.number (number_of N book g)) (seen ms (number_of N book g)) h in
+      let n : m.number ≡ number_of N book x = cc in
+      let rest : woven ms ≡ plan_words N book gs = cc in
+      rw (other x (rw n at p)) (unnamed ms gs rest q)
 
 -- ---- between two groups
 
--- the group whose name stands from s up to e, and whose nodes from m on
-abbrev group_at : List ℕ → ℕ → ℕ → ℕ → Group
-group_at t s e m = record { name = part t s e; nodes = nodes t m }
+-- the group of a front that was read
+abbrev group_at : List ℕ → Atom → Group
+group_at t a = record { name = part t a.from a.to; nodes = nodes t a.past }
 
 -- those passed are in the book, told apart by their names, and written
-pub record Taken (N : ℕ) (book t : List ℕ) (g j : ℕ) (begun : Bool) (k : ℕ) (numbers sets : List ℕ) : Type 0 where
+pub record Taken (N : ℕ) (book t : List ℕ) (g j : ℕ) (begun : Bool) (k : ℕ) (written : List Made) : Type 0 where
   pub passed : List Group
   pub parts : groups t g ≡ passed ++ groups_from t j begun
   pub ends : pass_groups t g ≡ pass_groups_from t j begun
@@ -72,59 +60,55 @@ pub record Taken (N : ℕ) (book t : List ℕ) (g j : ℕ) (begun : Bool) (k : �
   pub few : k ≤ group_limit
   pub known : all_listed N book passed ≡ true
   pub lone : apart passed ≡ true
-  pub room : (length numbers ≡ group_limit) × (length sets ≡ group_limit)
-  pub written : take (2 * k) (woven numbers sets) ≡ plan_words N book passed
+  pub room : length written ≡ group_limit
+  pub makes : woven (take k written) ≡ plan_words N book passed
 
 -- before the first
-pub taken_none : (N : ℕ) (book t : List ℕ) (g : ℕ) (numbers sets : List ℕ) → (length numbers ≡ group_limit) × (length sets ≡ group_limit)
-    → Taken N book t g g false 0 numbers sets
-unfolding all_listed plan_words
-taken_none N book t g numbers sets h =
-    record { passed = []; parts = refl; ends = refl; many = refl; few = omega arith; known = refl; lone = refl; room = h; written = refl }
+pub taken_none : (N : ℕ) (book t : List ℕ) (g : ℕ) (written : List Made) → length written ≡ group_limit → Taken N book t g g false 0 written
+unfolding all_listed plan_words woven
+taken_none N book t g written h =
+    record { passed = []; parts = refl; ends = refl; many = refl; few = omega arith; known = refl; lone = refl; room = h; makes = refl }
 
-module _ (N : ℕ) (book t : List ℕ) (g j : ℕ) (begun : Bool) (k : ℕ) (numbers sets : List ℕ) (T : Taken N book t g j begun k numbers sets) where
+module _ (N : ℕ) (book t : List ℕ) (g j : ℕ) (begun : Bool) (k : ℕ) (written : List Made) (T : Taken N book t g j begun k written) where
   -- one more, whose number is new
-  module _ (front s e m : ℕ) (opens : entry_at t j begun ≡ Entry.Group front) (head : head_at t front ≡ Atom.Is s e m)
-      (i : ℕ) (place : i ≡ place_of (part t s e) (group_atoms_of N book)) (count : ℕ) (all : count ≡ length (group_atoms_of N book)) (on : i < count)
-      (less : k < group_limit) (new : seen numbers k (i + 1) ≡ false) (w next : ℕ) (peopled : Noded N book t m 0 w next) where
-    rest : groups_from t j begun ≡ group_at t s e m ∷ groups_from t next true
+  module _ (front : ℕ) (a : Atom) (opens : entry_at t j begun ≡ Ok (Entry.Group front)) (head : head_at t front ≡ Ok a)
+      (m : Made) (number : Some m.number ≡ number_in N book (part t a.from a.to)) (less : k < group_limit)
+      (new : seen (take k written) m.number ≡ false) (next : ℕ) (peopled : Noded N book t a.past 0 m.set next) where
+    rest : groups_from t j begun ≡ group_at t a ∷ groups_from t next true
     rest = groups-unfold t j begun ∙ rw (opens, head, peopled.past)
 
     behind : pass_groups_from t j begun ≡ pass_groups_from t next true
     behind = pass_groups-unfold t j begun ∙ rw (opens, head, peopled.past)
 
-    number : i + 1 ≡ number_of N book (group_at t s e m)
-    number = omega arith
+    number-is : m.number ≡ number_of N book (group_at t a)
+    number-is = (number_some N book (part t a.from a.to) m.number number).1
 
-    here : listed N book (group_at t s e m) ≡ true
-    here =
-        let l : place_of (part t s e) (group_atoms_of N book) < length (group_atoms_of N book) = omega arith in
-        rw (sym (place-among (part t s e) (group_atoms_of N book)) ∙ lt-ltb _ _ l) peopled.known
+    here : listed N book (group_at t a) ≡ true
+    here = rw (number_some N book (part t a.from a.to) m.number number).0 peopled.known
 
-    alone : named T.passed (part t s e) ≡ false
-    alone =
-        let (p, q) = T.room in
-        unnamed N book numbers sets (p ∙ sym q) k (omega arith) (group_at t s e m) (rw number at new) [] T.passed T.many T.written
+    alone : named T.passed (part t a.from a.to) ≡ false
+    alone = unnamed N book (group_at t a) (take k written) T.passed T.makes (rw number-is at new)
 
-    pub taken_more : Taken N book t g next true (k + 1) (set numbers k (i + 1)) (set sets k w)
+    pub taken_more : Taken N book t g next true (k + 1) (set written k m)
     unfolding all_listed plan_words
-    taken_more = let (p, q) = T.room in record {
-      passed = T.passed ++ (group_at t s e m ∷ []);
-      parts = T.parts ∙ ap (λ l. T.passed ++ l) rest ∙ sym (append_assoc T.passed (group_at t s e m ∷ []) (groups_from t next true));
+    taken_more = record {
+      passed = T.passed ++ (group_at t a ∷ []);
+      parts = T.parts ∙ ap (λ l. T.passed ++ l) rest ∙ sym (append_assoc T.passed (group_at t a ∷ []) (groups_from t next true));
       ends = T.ends ∙ behind;
-      many = length-append T.passed (group_at t s e m ∷ []) ∙ omega (arith, T.many);
+      many = length-append T.passed (group_at t a ∷ []) ∙ omega (arith, T.many);
       few = omega arith;
-      known = all_listed-append N book T.passed (group_at t s e m ∷ []) ∙ rw (T.known, here);
-      lone = apart_snoc T.passed (group_at t s e m) T.lone alone;
-      room = (simp length-set p, simp length-set q);
-      written =
-          ap (take (2 * (k + 1))) (woven-put numbers sets p q k (i + 1) w less)
-          ∙ put-more (woven numbers sets) k (i + 1) w (woven-room numbers sets p q) less
-          ∙ rw (T.written, number, ← peopled.makes) (sym (plan_words-append N book T.passed (group_at t s e m ∷ [])));
+      known = all_listed-append N book T.passed (group_at t a ∷ []) ∙ rw (T.known, here);
+      lone = apart_snoc T.passed (group_at t a) T.lone alone;
+      room = length-set written k m ∙ T.room;
+      makes =
+          let more : suc k ≡ k + 1 = omega arith in
+          let room : k < length written = omega (arith, T.room) in
+          rw (← more, take-suc-set written k m room, woven-append (take k written) m, T.makes, number-is, ← peopled.makes)
+          (sym (plan_words-append N book T.passed (group_at t a ∷ [])));
     }
 
   -- none is left
-  pub taken_all : (e : ℕ) → entry_at t j begun ≡ Entry.Closed e → Planned N book t g (woven numbers sets) k e
+  pub taken_all : (e : ℕ) → entry_at t j begun ≡ Ok (Entry.Closed e) → Planned N book t g written k e
   unfolding verdict fitting
   taken_all e closed =
       let none : groups_from t j begun ≡ [] = groups-unfold t j begun ∙ rw closed in
@@ -133,5 +117,5 @@ module _ (N : ℕ) (book t : List ℕ) (g j : ℕ) (begun : Bool) (k : ℕ) (num
       record {
         past = T.ends ∙ pass_groups-unfold t j begun ∙ rw closed;
         fits = λ start. rw (apart-clash (groups t g) (get_or (lines book) start []) lone, apart-kept (groups t g) lone, is, T.known, T.many, le-ltb group_limit k T.few);
-        written = T.written ∙ ap (plan_words N book) (sym (apart-kept (groups t g) lone ∙ is));
+        makes = T.makes ∙ ap (plan_words N book) (sym (apart-kept (groups t g) lone ∙ is));
       }

@@ -1,6 +1,6 @@
 -- What the steps of new_s_group, add_nodes, remove_nodes and delete_s_group have at their returns, on a sound table. Assumes nothing.
-use Rattle.std.specs.Prelude.{◌≡◌, refl, Bool, true, false, ◌||◌, cond, ℕ, ◌+◌, ◌<◌, length, get_or}
-use Rattle.std.proofs.Common.{sym, ap₂, ◌∙◌, subst, true≢false, arith, eq-eqb, ne_eqb, eqb-true}
+use Rattle.std.specs.Prelude.{◌≡◌, refl, Ok, Err, is_ok, Bool, true, ◌||◌, cond, ℕ, ◌+◌, ◌<◌, length, get_or}
+use Rattle.std.proofs.Common.{sym, ap₂, ◌∙◌, subst, arith, eq-eqb, ne_eqb, eqb-true}
 use Rattle.std.proofs.Math.Path.{ap}
 use Rattle.std.proofs.Math.Bool.{or-true, and-eq-true_iff}
 use mathlib.Core.List.{List, ◌∷◌, ◌++◌}
@@ -15,17 +15,17 @@ use Rattle.answers.specs.Answers.{answer_of}
 use Rattle.semantics.specs.Ranges.{held}
 use Rattle.semantics.specs.Steps.{interconnect, leave_free, become_free, Result, reply, error, for_member, kept_names, left_in, apply}
 use Rattle.semantics.specs.Test.{sound}
-use Rattle.semantics.specs.Truth.{or_cases, unless}
+use Rattle.semantics.specs.Truth.{or_cases}
 use Rattle.semantics.specs.Groups.{Found, all_found, all-put}
 use Rattle.semantics.specs.Changed.{place}
 use Rattle.semantics.specs.WordsOfState.{Laid, size_is, count-is}
 use Rattle.answers.specs.declared.Value.TheVariants.{True, Error, Grouped}
 use Rattle.answers.specs.declared.Reason.{Reason}
 use Rattle.answers.specs.declared.Reason.TheVariants.{Done}
-use Rattle.inputs.specs.Judge.{is_done, group_reason, set_reason, creation_reason}
-use Rattle.inputs.specs.Passed.{done-is, creation_done}
+use Rattle.inputs.specs.Judge.{Verdict, checked, group_reason, set_reason, creation_reason}
+use Rattle.place.specs.Place.{Place, place_of}
 use Rattle.place.specs.Seats.{Seat, Room, Open, Shut, seat-group}
-use Rattle.place.specs.Sound.{here, regular, base, groups_few, seat-below, members-here}
+use Rattle.place.specs.Sound.{here, sought-here, regular, base, groups_few, seat-below, members-here}
 use Rattle.names.specs.NamesAt.{names_at, renamed}
 use Rattle.names.specs.NamesHere.{names_of}
 use Rattle.returns.specs.Judged.{Goes, Judging, refused, passed, allowed, step-new, step-add, step-remove, step-delete}
@@ -39,7 +39,7 @@ use Rattle.groups.specs.Grouped.{fresh, manned}
 pub record ForResults (room i s : ℕ) (c : Command) (st : State) (r : Reason) (k : Group → Result) : Type 0 where
   pub judging : Judging room i c st r (for_member i (find s st.groups) st k)
 
-module _ {room i s : ℕ} {c : Command} {st : State} {r : Reason} {k : Group → Result} (f : ForResults room i s c st r k) {q : Reason} (e : q ≡ r) (h : q ≡ Done) where
+module _ {room i s : ℕ} {c : Command} {st : State} {r : Reason} {k : Group → Result} (f : ForResults room i s c st r k) {v : Verdict} (e : v ≡ checked r) (h : v ≡ Ok tt) where
   pub turned_away : {d : Reason} → Shut i s st.groups d → Goes room i c st (error d st)
   turned_away d = record { is = (passed f.judging e h).is ∙ d.results st k }
 
@@ -73,6 +73,11 @@ module _ (t : List ℕ) (ok : sound names_per_group t ≡ true) {s at : ℕ} (r 
   pub members-seated : get_or t (members_at + at) 0 ≡ r.group.members
   members-seated = members-here t ok at seat-few ∙ ap (λ (g : Group). g.members) (seat-group r)
 
+-- the name of a new s_group is taken where a place was found
+pub taken-by : (t : List ℕ) → sound names_per_group t ≡ true → (s : ℕ) (p : Place) → p ≡ place_of s (here t).groups → is_ok p ≡ held (find s (here t).groups)
+taken-by t ok s (Ok k) e = ap held (sym (sought-here t ok s (Ok k) (Ok k) e refl).finds)
+taken-by t ok s (Err k) e = ap held (sym (sought-here t ok s (Err k) (Err k) e refl).finds)
+
 -- the s_groups are gs, the nodes of m have met, and those of the set have left the free groups
 abbrev pub joined : ℕ → ℕ → List Group → State → State
 joined m set gs st = with_groups gs (with_links (interconnect m st.links) (with_free (leave_free set st.free) st))
@@ -81,14 +86,14 @@ module _ (t : List ℕ) (ok : sound names_per_group t ≡ true) (i s : ℕ) wher
   -- ---- new_s_group
 
   module _ (set : ℕ) where
-    module _ {q : Reason} (taken : Bool) (e : q ≡ creation_reason (get_or t 0 0) (get_or t 2 0) i s set taken) (f : held (find s (here t).groups) ≡ taken) where
-      seen : q ≡ creation_reason (here t).size (length (here t).groups) i s set (held (find s (here t).groups))
-      seen = e ∙ (λ j. creation_reason (size_is (base t ok) j) (count-is (base t ok) j) i s set (sym f j))
+    module _ {v : Verdict} {taken : Bool} (e : v ≡ checked (creation_reason (get_or t 0 0) (get_or t 2 0) i s set taken)) (f : taken ≡ held (find s (here t).groups)) where
+      seen : v ≡ checked (creation_reason (here t).size (length (here t).groups) i s set (held (find s (here t).groups)))
+      seen = e ∙ (λ j. checked (creation_reason (size_is (base t ok) j) (count-is (base t ok) j) i s set (f j)))
 
-      pub new-refused : is_done q ≡ false → Says 0 i (NewSGroup s set) t (answer_of Error q) t
+      pub new-refused : {q : Reason} → v ≡ Err q → Says 0 i (NewSGroup s set) t (answer_of Error q) t
       new-refused h = says-kept t ok (refused (step-new 0 i (here t) s set) seen h)
 
-      pub new-made : q ≡ Done → {at : ℕ} (r : Room s at (here t).groups) (u : List ℕ)
+      pub new-made : v ≡ Ok tt → {at : ℕ} (r : Room s at (here t).groups) (u : List ℕ)
           → Laid names_per_group (joined set set (r.before ++ fresh s set ∷ r.after) (here t)) u
           → Says 0 i (NewSGroup s set) t (answer_of (Grouped s set) Done) u
       unfolding apply
@@ -96,14 +101,9 @@ module _ (t : List ℕ) (ok : sound names_per_group t ≡ true) (i s : ℕ) wher
           says t ok (passed (step-new 0 i (here t) s set) seen h) u
           (subst (λ (gs : List Group). Laid names_per_group (joined set set gs (here t)) u) (sym (r.adding (fresh s set) refl)) l)
 
-    -- where the name is taken there is always a reason
-    pub new-taken : {q : Reason} → q ≡ creation_reason (get_or t 0 0) (get_or t 2 0) i s set true → {at : ℕ} → Seat s at (here t).groups
-        → Says 0 i (NewSGroup s set) t (answer_of Error q) t
-    new-taken {q} e r = new-refused true e (ap held r.finds) (unless (is_done q) λ h. true≢false (creation_done (get_or t 0 0) (get_or t 2 0) i s set true (sym e ∙ done-is q h)).2)
-
     -- ---- add_nodes
 
-    module _ {q : Reason} (e : q ≡ set_reason (here t).size i s set) (h : q ≡ Done) {at : ℕ} (o : Open i s at (here t).groups) where
+    module _ {v : Verdict} (e : v ≡ checked (set_reason (here t).size i s set)) (h : v ≡ Ok tt) {at : ℕ} (o : Open i s at (here t).groups) where
       pub add-joined : (m : ℕ) → m ≡ union (get_or t (members_at + at) 0) set → (u : List ℕ)
           → Laid names_per_group (joined m set (o.seat.before ++ manned m o.seat.group ∷ o.seat.after) (here t)) u
           → Says 0 i (AddNodes s set) t (answer_of (Grouped s set) Done) u
@@ -153,7 +153,7 @@ module _ (t : List ℕ) (ok : sound names_per_group t ≡ true) (i s : ℕ) wher
 
   -- ---- delete_s_group
 
-  module _ {q : Reason} (e : q ≡ group_reason (here t).size i s) (h : q ≡ Done) {at : ℕ} (o : Open i s at (here t).groups) where
+  module _ {v : Verdict} (e : v ≡ checked (group_reason (here t).size i s)) (h : v ≡ Ok tt) {at : ℕ} (o : Open i s at (here t).groups) where
     pub delete-done : (u : List ℕ) → Laid names_per_group (become_free (get_or t (members_at + at) 0) (o.seat.before ++ o.seat.after) (here t)) u
         → Says 0 i (DeleteSGroup s) t (answer_of True Done) u
     delete-done u l =

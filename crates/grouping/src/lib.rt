@@ -7,13 +7,14 @@ ghost use Rattle.commands.specs.declared.Command.TheVariants.{NewSGroup, AddNode
 ghost use Rattle.semantics.specs.Test.{sound};
 ghost use Rattle.semantics.specs.Call.{call};
 
-use answers::{Answer, Reason, Value, done, refused};
+use answers::{Answer, Value, done, refused};
 use connecting::{become_free, interconnect, leave_free};
 use groups::{delete_group, insert_group, set_members};
-use inputs::{creation_reason, group_reason, set_reason};
-use layout::{COUNT_AT, MEMBERS_AT, SIZE_AT};
+use inputs::{check_creation, check_group, check_set};
+use layout::MEMBERS_AT;
 use names::drop_hosted;
-use place::{Access, Place, place_for, place_of};
+use place::{place_for, place_of};
+use sound_table::SoundTable;
 
 // A new s_group of the set: its members are all connected and leave the free groups.
 pub fn new_s_group(t: &mut [u64], caller: u32, s: u32, set: u64) -> Answer
@@ -22,24 +23,23 @@ pub fn new_s_group(t: &mut [u64], caller: u32, s: u32, set: u64) -> Answer
     ensures value { result ≡ (call 0 caller (NewSGroup s set) t.old).answer }
     ensures t_after { t.new ≡ (call 0 caller (NewSGroup s set) t.old).table }
 {
-    let size = t[SIZE_AT] as u32;
-    let count = t[COUNT_AT] as usize;
-    match place_of(t, s) {
-        Place::At(_) => {
-            let reason = creation_reason(size, count, caller, s, set, true);
-            refused(reason)
-        }
-        Place::Gap(at) => {
-            let reason = creation_reason(size, count, caller, s, set, false);
-            let Reason::Done = reason else {
-                return refused(reason);
-            };
-            leave_free(t, set);
-            interconnect(t, set);
-            insert_group(t, at, s, set);
-            done(Value::Grouped(s, set))
-        }
+    let table = SoundTable { words: t };
+    let place = place_of(table, s);
+    if let Err(reason) = check_creation(
+        table.size(),
+        table.count(),
+        caller,
+        s,
+        set,
+        place.is_ok(),
+    ) {
+        return refused(reason);
     }
+    let at = place.unwrap_err();
+    leave_free(t, set);
+    interconnect(t, set);
+    insert_group(t, at, s, set);
+    done(Value::Grouped(s, set))
 }
 
 // The set joins the s_group: all members are connected, and the set leaves the free groups.
@@ -49,14 +49,13 @@ pub fn add_nodes(t: &mut [u64], caller: u32, s: u32, set: u64) -> Answer
     ensures value { result ≡ (call 0 caller (AddNodes s set) t.old).answer }
     ensures t_after { t.new ≡ (call 0 caller (AddNodes s set) t.old).table }
 {
-    let size = t[SIZE_AT] as u32;
-    let reason = set_reason(size, caller, s, set);
-    let Reason::Done = reason else {
+    let size = SoundTable { words: t }.size();
+    if let Err(reason) = check_set(size, caller, s, set) {
         return refused(reason);
-    };
-    match place_for(t, caller, s) {
-        Access::Denied(denial) => refused(denial),
-        Access::Member(at) => {
+    }
+    match place_for(SoundTable { words: t }, caller, s) {
+        Err(denial) => refused(denial),
+        Ok(at) => {
             let members = nodes::union(t[MEMBERS_AT + at], set);
             leave_free(t, set);
             interconnect(t, members);
@@ -73,14 +72,13 @@ pub fn remove_nodes(t: &mut [u64], caller: u32, s: u32, set: u64) -> Answer
     ensures value { result ≡ (call 0 caller (RemoveNodes s set) t.old).answer }
     ensures t_after { t.new ≡ (call 0 caller (RemoveNodes s set) t.old).table }
 {
-    let size = t[SIZE_AT] as u32;
-    let reason = set_reason(size, caller, s, set);
-    let Reason::Done = reason else {
+    let size = SoundTable { words: t }.size();
+    if let Err(reason) = check_set(size, caller, s, set) {
         return refused(reason);
-    };
-    match place_for(t, caller, s) {
-        Access::Denied(denial) => refused(denial),
-        Access::Member(at) => {
+    }
+    match place_for(SoundTable { words: t }, caller, s) {
+        Err(denial) => refused(denial),
+        Ok(at) => {
             let members = t[MEMBERS_AT + at];
             let left = nodes::diff(members, set);
             if left == 0 {
@@ -104,14 +102,13 @@ pub fn delete_s_group(t: &mut [u64], caller: u32, s: u32) -> Answer
     ensures value { result ≡ (call 0 caller (DeleteSGroup s) t.old).answer }
     ensures t_after { t.new ≡ (call 0 caller (DeleteSGroup s) t.old).table }
 {
-    let size = t[SIZE_AT] as u32;
-    let reason = group_reason(size, caller, s);
-    let Reason::Done = reason else {
+    let size = SoundTable { words: t }.size();
+    if let Err(reason) = check_group(size, caller, s) {
         return refused(reason);
-    };
-    match place_for(t, caller, s) {
-        Access::Denied(denial) => refused(denial),
-        Access::Member(at) => {
+    }
+    match place_for(SoundTable { words: t }, caller, s) {
+        Err(denial) => refused(denial),
+        Ok(at) => {
             let members = t[MEMBERS_AT + at];
             delete_group(t, at);
             become_free(t, members);

@@ -1,6 +1,7 @@
 -- The words of a part, the nodes that are in an s_group, and what one test of contents and members says of both. Assumes nothing.
-use Rattle.std.specs.Prelude.{◌≡◌, refl, Bool, true, not, ◌&&◌, cond, List, ℕ, ◌+◌, ◌-◌, ◌≤◌, ◌<◌, leb, ltb, length, get_or, take, drop}
+use Rattle.std.specs.Prelude.{◌≡◌, refl, Bool, true, not, ◌&&◌, List, ℕ, ◌+◌, ◌-◌, ◌≤◌, ◌<◌, leb, ltb, length, get_or, take, drop}
 use Rattle.std.proofs.Common.{sym, ap, ◌∙◌, arith, length-drop, get_or-take, get_or-drop, length-take-le}
+use Rattle.std.specs.Bool.{then_some}
 use Rattle.nodes.specs.Sets.{has, empty, beyond, union, union_all, word_at}
 use Rattle.nodes.specs.Bools.{test-ext}
 use Rattle.nodes.proofs.SetLaws.{union_all-in, union_all_out, union_all-take}
@@ -9,7 +10,6 @@ use Rattle.semantics.specs.Soundness.{name_of, names_of, members_of}
 use Rattle.free_test.specs.WireTests.{all_below}
 use Rattle.free_test.specs.Below.{below_step, tests, within-iff}
 use Rattle.groups_test.specs.GroupTests.{name_before, contents_right, members_right, part, members_part, grouped_in, grouped_of}
-use Rattle.groups_test.specs.declared.Grouped.TheVariants as grouped
 
 -- ---- the words of a part
 
@@ -87,5 +87,5 @@ grouped-right cap t G n long few =
 -- so that this test tells what contents and members come to
 pub grouped-told : (cap : ℕ) (t : List ℕ) (G n : ℕ) → bodies_at ≤ length t → G ≤ group_limit
     → (right : Bool) → right ≡ all_below G (group_right cap t) → (all : ℕ) → all ≡ grouped_in t G → (past : Bool) → past ≡ beyond all n
-    → (test : Bool) → right && not past ≡ test → cond test (grouped.Nodes all) grouped.Wrong ≡ grouped_of cap t G n
-grouped-told cap t G n long few right er all ea past ep test e = rw (← e, er, ep, ea, grouped-right cap t G n long few)
+    → then_some (right && not past) all ≡ grouped_of cap t G n
+grouped-told cap t G n long few right er all ea past ep = rw (er, ep, ea, grouped-right cap t G n long few)

@@ -1,12 +1,11 @@
 -- What the soundness test computes, part by part. Assumes nothing.
-use Rattle.std.specs.Prelude.{Bool, not, ◌&&◌, cond, List, ℕ, zero, suc, ◌+◌, ◌-◌, ◌*◌, min, eqb, leb, ltb, take, drop}
+use Rattle.std.specs.Prelude.{Bool, not, ◌&&◌, Option, List, ℕ, zero, suc, ◌+◌, ◌-◌, ◌*◌, min, eqb, leb, ltb, take, drop}
+use Rattle.std.specs.Bool.{then_some}
 use Rattle.nodes.specs.Sets.{node_limit, empty, roster, diff, beyond, union_all}
 use Rattle.entries.specs.NamespaceSound.{sound_words}
 use Rattle.semantics.specs.Sizes.{group_limit, contents_at, members_at, links_at, free_at, bodies_at, table_words}
 use Rattle.semantics.specs.Soundness.{hidden_of, name_of, names_of, members_of}
 use Rattle.free_test.specs.WireTests.{all_below, all_zero, links_sound, members_met, free_sound}
-use Rattle.groups_test.specs.declared.Grouped.{Grouped}
-use Rattle.groups_test.specs.declared.Grouped.TheVariants as grouped
 
 -- the name of the s_group before group g, and 0 before the first
 abbrev pub name_before : List ℕ → ℕ → ℕ
@@ -68,8 +67,8 @@ abbrev pub grouped_in : List ℕ → ℕ → ℕ
 grouped_in t G = union_all (take G (members_part t))
 
 -- what contents and members come to: the nodes in an s_group where all is right with them
-abbrev pub grouped_of : ℕ → List ℕ → ℕ → ℕ → Grouped
-grouped_of cap t G n = cond (all_below G (contents_right cap t) && all_below G (members_right t n)) (grouped.Nodes (grouped_in t G)) grouped.Wrong
+abbrev pub grouped_of : ℕ → List ℕ → ℕ → ℕ → Option ℕ
+grouped_of cap t G n = then_some (all_below G (contents_right cap t) && all_below G (members_right t n)) (grouped_in t G)
 
 -- of the first n nodes, those that are neither hidden nor among those in an s_group
 abbrev pub loose_in : List ℕ → ℕ → ℕ → ℕ

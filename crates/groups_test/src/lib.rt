@@ -13,37 +13,24 @@ use namespace_test::SLOT_COUNT;
 // From so many s_groups on it is quicker to write each node beside its connections first.
 const KNOWN_FROM: usize = 6;
 
-// What contents and members come to: the nodes that are in an s_group, or that something is wrong with them.
-#[derive(Clone, Copy)]
-pub enum Grouped {
-    Nodes(u64),
-    Wrong,
-}
-
 // The nodes in an s_group, where the names of the s_groups ascend from 1, their counts of names are within the capacity, each has a member, and all members are among the
-// first n nodes.
-pub fn grouped_nodes(t: &[u64], g: usize, n: u32, cap: usize) -> Grouped
+// first n nodes; none where something is wrong with contents or members.
+pub fn grouped_nodes(t: &[u64], g: usize, n: u32, cap: usize) -> Option<u64>
     requires { (bodies_at ≤ length t.now) × (g ≤ group_limit) }
     ensures { result ≡ grouped_of cap t.now g n }
 {
     let mut right = true;
     let mut all: u64 = 0;
     let mut last: u64 = 0;
-    let mut i = 0;
-    while i < g {
+    for i in 0..g {
         let word = t[CONTENTS_AT + i];
         let set = t[MEMBERS_AT + i];
         let name = word % GROUP_NAMES;
-        right = right & ((last < name) & ((word / GROUP_NAMES <= cap as u64) & (set != 0)));
+        right &= (last < name) & ((word / GROUP_NAMES <= cap as u64) & (set != 0));
         last = name;
-        all = all | set;
-        i += 1;
+        all |= set;
     }
-    if right & !nodes::beyond(all, n) {
-        Grouped::Nodes(all)
-    } else {
-        Grouped::Wrong
-    }
+    (right & !nodes::beyond(all, n)).then_some(all)
 }
 
 // Whether the members of each are all connected, from the connections as they are.
@@ -52,28 +39,26 @@ fn few_met(t: &[u64], g: usize) -> bool
     ensures { result ≡ all_below g (met_right t.now) }
 {
     let mut right = true;
-    let mut i = 0;
-    while i < g {
+    for i in 0..g {
         let set = t[MEMBERS_AT + i];
-        right = right & free_test::members_met(&t[LINKS_AT..FREE_AT], set);
-        i += 1;
+        right &= free_test::members_met(&t[LINKS_AT..FREE_AT], set);
     }
     right
 }
 
-// Whether the members of each are all connected, with each node written beside its connections first.
+// Whether the members of each are all connected, with each node written beside its connections first. Beside `few_met`, not with it one function that takes
+// the test as a closure: what such a one promises would speak of the closure in place of `met_right`.
 fn many_met(t: &[u64], g: usize) -> bool
     requires { (bodies_at ≤ length t.now) × (g ≤ group_limit) }
     ensures { result ≡ all_below g (met_right t.now) }
 {
     let mut known = [0u64; NODE_WORDS];
-    free_test::know(&t[LINKS_AT..FREE_AT], &mut known);
+    let links = t[LINKS_AT..FREE_AT].as_array::<NODE_WORDS>().unwrap();
+    free_test::know(links, &mut known);
     let mut right = true;
-    let mut i = 0;
-    while i < g {
+    for i in 0..g {
         let set = t[MEMBERS_AT + i];
-        right = right & free_test::known_met(&known, set);
-        i += 1;
+        right &= free_test::known_met(&known, set);
     }
     right
 }
@@ -96,8 +81,7 @@ pub fn names_sound(t: &[u64], g: usize, n: u32, cap: usize) -> bool
     ensures { result ≡ all_below g (names_right cap t.now n) }
 {
     let mut seen = [0u8; SLOT_COUNT];
-    let mut i = 0;
-    while i < g {
+    for i in 0..g {
         let count = (t[CONTENTS_AT + i] / GROUP_NAMES) as usize;
         let start = BODIES_AT + cap * i;
         let end = start + cap;
@@ -105,7 +89,6 @@ pub fn names_sound(t: &[u64], g: usize, n: u32, cap: usize) -> bool
         if !namespace_test::is_sound(&t[start..end], count, n, &mut seen, stamp) {
             return false;
         }
-        i += 1;
     }
     true
 }

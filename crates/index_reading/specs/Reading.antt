@@ -7,7 +7,7 @@ use Rattle.std.proofs.Math.ListN.{take, length-drop}
 use Rattle.std.proofs.lemmas.List.{drop-append-le}
 use Rattle.std.proofs.Math.Seq.{length-take-le}
 use borrow.Author.Tests.{eq-eqb, le-leb, lt-leb, lt-ltb, le-ltb}
-use Rattle.entries.specs.Entries.{half_word, host}
+use Rattle.entries.specs.Entries.{host}
 use Rattle.answers.specs.Answers.{answer_of}
 use Rattle.answers.specs.declared.Value.TheVariants.{Listed}
 use Rattle.answers.specs.declared.Reason.TheVariants.{Done, NodeUnknown, RunShort}
@@ -53,9 +53,6 @@ pub record Ranked (t x : List ℕ) (p count from to : ℕ) : Type 0 where
 module _ {t x : List ℕ} (h : Paired t x) where
   size : size_of t ≡ (state_of names_per_group t).size
   size = size_is (test-laid names_per_group t h.ok)
-
-  pub size_fits : size_of t < half_word
-  size_fits = omega (arith, size, (test-regular names_per_group t h.ok).0.size_high)
 
   -- ---- the rows
 

@@ -1,9 +1,8 @@
 // Reading by pid in the index of a sound table.
 #![tactic(auto)]
 
-ghost use Rattle.std.specs.Prelude.{◌≡◌, true, ◌++◌, ◌+◌, ◌*◌, ◌≤◌, length, drop};
-ghost use Rattle.semantics.specs.Sizes.{names_per_group, table_words, row_words};
-ghost use Rattle.semantics.specs.Test.{sound};
+ghost use Rattle.std.specs.Prelude.{◌≡◌, ◌++◌, ◌+◌, ◌*◌, ◌≤◌, length, drop};
+ghost use Rattle.semantics.specs.Sizes.{names_per_group, row_words};
 ghost use Rattle.semantics.specs.Call.{listed_over};
 ghost use Rattle.indexes.specs.Index.{named, index_of_table};
 ghost use Rattle.indexes.specs.Flat.{read_rows};
@@ -13,7 +12,8 @@ use answers::{Answer, Reason, Value, done, refused};
 use entries::{HALF_WORD, PIDS_PER_HOST};
 use index_rows::rank;
 use index_test::names_total;
-use layout::{GROUP_NAMES, ROW_WORDS, SIZE_AT};
+use layout::{GROUP_NAMES, ROW_WORDS};
+use sound_table::SoundTable;
 
 // S_group and name of so many rows, from the row `from` on, to the front of the run.
 fn list_rows(index: &[u64], from: usize, many: usize, out: &mut [u64])
@@ -21,26 +21,21 @@ fn list_rows(index: &[u64], from: usize, many: usize, out: &mut [u64])
     requires many_in_bounds_2 { row_words * many ≤ length out.old }
     ensures { out.new ≡ named (read_rows many (drop (row_words * from) index.now)) ++ drop (row_words * many) out.old }
 {
-    let mut k = 0;
-    while k < many {
+    for k in 0..many {
         let row = ROW_WORDS * (from + k);
         let at = ROW_WORDS * k;
         out[at] = index[row] % HALF_WORD;
         out[at + 1] = index[row + 1];
-        k += 1;
     }
 }
 
 // S_group and name of each row of the pid, as a list in the run, where it has room. The rows are found by halves.
-pub fn names_of(t: &[u64], index: &[u64], p: u32, out: &mut [u64]) -> Answer
-    requires t_len { length t.now ≡ table_words names_per_group }
-    requires t_value { sound names_per_group t.now ≡ true }
-    requires index_value { index.now ≡ index_of_table names_per_group t.now }
-    ensures value { result ≡ (read (length out.old) p t.now index.now).answer }
-    ensures out_after { out.new ≡ listed_over (read (length out.old) p t.now index.now).list out.old }
+pub fn names_of(t: SoundTable<'_>, index: &[u64], p: u32, out: &mut [u64]) -> Answer
+    requires index_value { index.now ≡ index_of_table names_per_group t.words.now }
+    ensures value { result ≡ (read (length out.old) p t.entry.words.now index.now).answer }
+    ensures out_after { out.new ≡ listed_over (read (length out.old) p t.entry.words.now index.now).list out.old }
 {
-    let size = t[SIZE_AT] as u32;
-    if size <= p / PIDS_PER_HOST {
+    if t.size() <= p / PIDS_PER_HOST {
         return refused(Reason::NodeUnknown);
     }
     let count = names_total(t);

@@ -54,54 +54,56 @@ module _ {p : Row → Bool} {xs : List Row} {z : List ℕ} {j kept : ℕ} {run :
   one_more : keep p (take (suc j) xs) ≡ keep p (take j xs) ++ keep p (row_at j xs ∷ [])
   one_more = rw (take-suc xs j no_row some) (keep_append p (take j xs) (row_at j xs ∷ []))
 
-  module _ (i : ℕ) (place : i ≡ row_words * j) where
-    -- its key and its name, read at i
-    pub key_here : get_or run i 0 ≡ (row_at j xs).key
-    key_here = rw (place, ← add-zero (row_words * j), ← get_or-drop (row_words * j) run 0 0, words-here)
+  -- its key and its name, read there
+  pub key_here : get_or run (row_words * j) 0 ≡ (row_at j xs).key
+  key_here = rw (← add-zero (row_words * j), ← get_or-drop (row_words * j) run 0 0, words-here)
 
-    name-here : get_or run (i + 1) 0 ≡ (row_at j xs).name
-    name-here = rw (place, ← get_or-drop (row_words * j) run 1 0, words-here)
+  name-here : get_or run (row_words * j + 1) 0 ≡ (row_at j xs).name
+  name-here = rw (← get_or-drop (row_words * j) run 1 0, words-here)
 
-    module _ (behind : kept ≤ i) (room : i + row_words ≤ length run) where
-      -- the words behind it stay as they were
-      later-on : (a b : ℕ) → drop (row_words * suc j) (set (set run kept a) (kept + 1) b) ≡ flat (drop (suc j) xs) ++ z
-      later-on a b =
-          let next : row_words * suc j ≡ row_words * j + row_words = omega arith in
-          drop-set-lt (row_words * suc j) (set run kept a) (kept + 1) b (omega arith) ∙ drop-set-lt (row_words * suc j) run kept a (omega arith)
-          ∙ rw (next, ← drop-drop row_words (row_words * j) run, words-here)
+  module _ (behind : kept ≤ row_words * j) (room : row_words * j + row_words ≤ length run) where
+    -- the words behind it stay as they were
+    later-on : (a b : ℕ) → drop (row_words * suc j) (set (set run kept a) (kept + 1) b) ≡ flat (drop (suc j) xs) ++ z
+    later-on a b =
+        let next : row_words * suc j ≡ row_words * j + row_words = omega arith in
+        drop-set-lt (row_words * suc j) (set run kept a) (kept + 1) b (omega arith) ∙ drop-set-lt (row_words * suc j) run kept a (omega arith)
+        ∙ rw (next, ← drop-drop row_words (row_words * j) run, words-here)
 
-      -- it goes
-      gone : p (row_at j xs) ≡ false → (a b : ℕ) → Swept p xs z (suc j) kept (set (set run kept a) (kept + 1) b)
-      unfolding keep
-      gone h a b =
-          let same : keep p (take (suc j) xs) ≡ keep p (take j xs) = one_more ∙ rw h (append-nil (keep p (take j xs))) in
-          record {
-            many = w.many ∙ rw same;
-            front = take-set-le kept (set run kept a) (kept + 1) b (omega arith) ∙ take-set-le kept run kept a (omega arith) ∙ w.front ∙ ap flat (sym same);
-            later = later-on a b;
-          }
+    -- it goes
+    gone : p (row_at j xs) ≡ false → (a b : ℕ) → Swept p xs z (suc j) kept (set (set run kept a) (kept + 1) b)
+    unfolding keep
+    gone h a b =
+        let same : keep p (take (suc j) xs) ≡ keep p (take j xs) = one_more ∙ rw h (append-nil (keep p (take j xs))) in
+        record {
+          many = w.many ∙ rw same;
+          front = take-set-le kept (set run kept a) (kept + 1) b (omega arith) ∙ take-set-le kept run kept a (omega arith) ∙ w.front ∙ ap flat (sym same);
+          later = later-on a b;
+        }
 
-      -- it stays
-      stayed : p (row_at j xs) ≡ true → Swept p xs z (suc j) (kept + row_words) (set (set run kept (get_or run i 0)) (kept + 1) (get_or run (i + 1) 0))
-      unfolding keep flat
-      stayed h =
-          let more : keep p (take (suc j) xs) ≡ keep p (take j xs) ++ row_at j xs ∷ [] = one_more ∙ rw h in
-          let two : List ℕ = get_or run i 0 ∷ get_or run (i + 1) 0 ∷ [] in
-          let long : length (take kept run ++ two) ≡ kept + row_words =
-          omega (arith, length-append (take kept run) two, length-take-le kept run (omega arith)) in
-          record {
-            many = rw more (omega (arith, length-append (keep p (take j xs)) (row_at j xs ∷ []), w.many));
-            front =
-                rw (stored run kept (get_or run i 0) (get_or run (i + 1) 0) (omega arith), take_at (take kept run ++ two) (drop (kept + row_words) run) (kept + row_words) long, w.front, key_here, name-here, more)
-                (sym (flat_append (keep p (take j xs)) (row_at j xs ∷ [])));
-            later = later-on (get_or run i 0) (get_or run (i + 1) 0);
-          }
+    -- it stays
+    stayed : p (row_at j xs) ≡ true
+        → Swept p xs z (suc j) (kept + row_words) (set (set run kept (get_or run (row_words * j) 0)) (kept + 1) (get_or run (row_words * j + 1) 0))
+    unfolding keep flat
+    stayed h =
+        let key : ℕ = get_or run (row_words * j) 0 in
+        let name : ℕ = get_or run (row_words * j + 1) 0 in
+        let more : keep p (take (suc j) xs) ≡ keep p (take j xs) ++ row_at j xs ∷ [] = one_more ∙ rw h in
+        let two : List ℕ = key ∷ name ∷ [] in
+        let long : length (take kept run ++ two) ≡ kept + row_words =
+        omega (arith, length-append (take kept run) two, length-take-le kept run (omega arith)) in
+        record {
+          many = rw more (omega (arith, length-append (keep p (take j xs)) (row_at j xs ∷ []), w.many));
+          front =
+              rw (stored run kept key name (omega arith), take_at (take kept run ++ two) (drop (kept + row_words) run) (kept + row_words) long, w.front, key_here, name-here, more)
+              (sym (flat_append (keep p (take j xs)) (row_at j xs ∷ [])));
+          later = later-on key name;
+        }
 
-      -- one row more
-      pub swept-on : (t : Bool) → t ≡ p (row_at j xs) → (n : ℕ) → n ≡ suc j
-          → Swept p xs z n (kept + row_words * bool_byte t) (set (set run kept (get_or run i 0)) (kept + 1) (get_or run (i + 1) 0))
-      swept-on true e n q = rw q (stayed (sym e))
-      swept-on false e n q = rw (q, add-zero kept) (gone (sym e) (get_or run i 0) (get_or run (i + 1) 0))
+    -- one row more
+    pub swept-on : (t : Bool) → t ≡ p (row_at j xs) → (n : ℕ) → n ≡ suc j
+        → Swept p xs z n (kept + row_words * bool_byte t) (set (set run kept (get_or run (row_words * j) 0)) (kept + 1) (get_or run (row_words * j + 1) 0))
+    swept-on true e n q = rw q (stayed (sym e))
+    swept-on false e n q = rw (q, add-zero kept) (gone (sym e) (get_or run (row_words * j) 0) (get_or run (row_words * j + 1) 0))
 
 -- at the end: the words between those of the rows that stay and the rest are lent, and put back as zeros
 pub swept_all : (p : Row → Bool) (count : ℕ) (xs : List Row) (n kept j : ℕ) (run : List ℕ) → length xs ≡ count → length run ≡ n → row_words * count ≤ n → j ≡ count

@@ -16,7 +16,8 @@ use Rattle.semantics.specs.Places.{no_group, group_at, every-iff}
 use Rattle.semantics.specs.Bodies.{own_at}
 use Rattle.semantics.specs.OneGroup.{group_words}
 use Rattle.place.specs.Seats.{Seat, Room, seat-group}
-use Rattle.place.specs.Sound.{here, regular, base, seat-below}
+use Rattle.sound_table.specs.Here.{here, regular, base}
+use Rattle.place.specs.Sound.{seat-below}
 use Rattle.indexes.specs.Index.{Row, key_of, pid_of, group_of, rows, walk}
 use Rattle.indexes.specs.Ascending.{holds}
 use Rattle.indexes.specs.WalkWords.{groups-counted}

@@ -9,7 +9,7 @@ use Rattle.semantics.specs.Soundness.{count_of, name_of}
 use Rattle.semantics.specs.Places.{no_group, group_at}
 use Rattle.semantics.specs.WordByWord.{reads}
 use Rattle.semantics.proofs.WordsMeaning.{regular-means}
-use Rattle.place.specs.Sound.{here, regular, base}
+use Rattle.sound_table.specs.Here.{here, regular, base}
 use Rattle.indexes.specs.WalkWords.{groups-counted}
 use Rattle.index_test.specs.Right.{slot_count, noted}
 

@@ -10,7 +10,7 @@ use Rattle.semantics.specs.TestLaws.{same-iff}
 use Rattle.semantics.specs.Padding.{length-pad, getD-pad}
 use Rattle.free_test.specs.WireTests.{all_zero}
 use Rattle.free_test.specs.Below.{tail-iff}
-use Rattle.place.specs.Sound.{here, regular}
+use Rattle.sound_table.specs.Here.{here, regular}
 use Rattle.indexes.specs.Index.{Row, walk, sorted, flat, laid, index_of, index_of_table}
 use Rattle.indexes.specs.Ascending.{Ascending, Distinct, holds, all_held}
 use Rattle.indexes.specs.Sorting.{length-sorted, sorted-ascending}

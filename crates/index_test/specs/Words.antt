@@ -25,15 +25,6 @@ pub record Within (w : ℕ) (ws : List ℕ) (b n : ℕ) : Type 0 where
   pub fits : b + n ≤ length ws
   pub sought : 0 < w → Upward ws → (j : ℕ) → get_or ws j 0 ≡ w → (b ≤ j) × (j < b + n)
 
--- at first they are all
-pub within_all : (w : ℕ) (ws : List ℕ) → 0 < length ws → Within w ws 0 (length ws)
-within_all w ws h = record {
-  some = h;
-  fits = omega arith;
-  sought = λ l u j e.
-      ⊎_elim (λ (t : j < length ws). omega arith) (λ (t : length ws ≤ j). absurd (omega (arith, get_or-eq_default ws 0 t))) (by_lt j (length ws));
-}
-
 -- whether the word at m is none of zero and at most w
 abbrev pub upto : ℕ → List ℕ → ℕ → Bool
 upto w ws m = not (eqb (get_or ws m 0) 0) && leb (get_or ws m 0) w

@@ -10,6 +10,7 @@ use Rattle.answers.specs.Answers.{number, refuses, answer_of}
 use Rattle.semantics.specs.Sizes.{names_per_group, table_words, index_words}
 use Rattle.semantics.specs.Call.{Call, refused, opening}
 use Rattle.semantics.specs.Steps as Steps
+use Rattle.inputs.specs.Judge.{is_done}
 use Rattle.semantics.specs.Table.{layout}
 use Rattle.answers.specs.declared.Answer.{Answer}
 use Rattle.answers.specs.declared.Value.TheVariants.{Ok}
@@ -58,15 +59,16 @@ module _ (N hidden : ℕ) (t x : List ℕ) where
 
   -- ---- as the opening answers
 
-  module _ (e : length x ≡ index_words names_per_group) {n : ℕ} {a : Answer} (says : n ≡ number a.reason) (gives : a ≡ (opening N hidden t).answer) where
-    -- an opening that is done
-    pub opened-zeroed : n ≡ 0 → opened N hidden t x ≡ record { given = opening N hidden t; index = replicate (index_words names_per_group) 0 }
-    opened-zeroed z =
+  module _ (e : length x ≡ index_words names_per_group) {a : Answer} (gives : a ≡ (opening N hidden t).answer) where
+    by-answer : {b : Bool} → is_done a.reason ≡ b → opened N hidden t x ≡ record { given = opening N hidden t; index = cond b (replicate (index_words names_per_group) 0) x }
+    by-answer {b} h =
         opened-fitting e
-        ∙ ap (λ (b : Bool). record { given = opening N hidden t; index = cond b (replicate (index_words names_per_group) 0) x }) (eq-eqb _ 0 (sym (says ∙ ap (λ (d : Answer). number d.reason) gives) ∙ z))
+        ∙ ap (λ (d : Bool). record { given = opening N hidden t; index = cond d (replicate (index_words names_per_group) 0) x }) (ap (λ (d : Answer). is_done d.reason) (sym gives) ∙ h)
+
+    -- an opening that is done
+    pub opened-zeroed : is_done a.reason ≡ true → opened N hidden t x ≡ record { given = opening N hidden t; index = replicate (index_words names_per_group) 0 }
+    opened-zeroed = by-answer
 
     -- one that is refused
-    pub opened_left : (n ≡ 0 → ⊥) → opened N hidden t x ≡ record { given = opening N hidden t; index = x }
-    opened_left z =
-        opened-fitting e
-        ∙ ap (λ (b : Bool). record { given = opening N hidden t; index = cond b (replicate (index_words names_per_group) 0) x }) (ne_eqb _ 0 (λ q. z (says ∙ ap (λ (d : Answer). number d.reason) gives ∙ q)))
+    pub opened_left : is_done a.reason ≡ false → opened N hidden t x ≡ record { given = opening N hidden t; index = x }
+    opened_left = by-answer

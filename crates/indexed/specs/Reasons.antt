@@ -1,6 +1,7 @@
 -- Which reason a call with an index has before its step, and what it gives then. Assumes nothing.
-use Rattle.std.specs.Prelude.{◌≡◌, refl, Bool, cond, List, [], ℕ, eqb, length}
-use Rattle.std.proofs.Common.{sym, ap, ◌∙◌, subst, true≢false, arith}
+use Rattle.std.specs.Prelude.{◌≡◌, refl, Bool, cond, Ok, Err, List, [], ℕ, eqb, length}
+use Rattle.std.proofs.Common.{sym, ap, ◌∙◌, ⊎_elim, subst, true≢false, arith}
+use Rattle.nodes.specs.Bools.{by_test}
 use Rattle.std.proofs.Math.Bool.{true, false, not}
 use borrow.Author.Tests.{eq-eqb, ne_eqb}
 use Rattle.answers.specs.Answers.{number, refuses, answer_of}
@@ -11,10 +12,13 @@ use Rattle.semantics.specs.TestLaws.{same-iff}
 use Rattle.semantics.specs.Truth.{unless}
 use Rattle.semantics.proofs.Agree.{test-regular}
 use Rattle.semantics.specs.FirstReason.{first}
-use Rattle.semantics.specs.Call.{Call, call, listed_over}
-use Rattle.inputs.specs.Judge.{is_done}
+use Rattle.semantics.specs.Call.{Call, call, listed_over, why}
+use Rattle.inputs.specs.Judge.{is_done, Verdict, checked}
+use Rattle.inputs.proofs.Reasons as Reasons
+use Rattle.inputs.proofs.Reasons.{passes}
 use Rattle.answers.specs.declared.Answer.{Answer}
-use Rattle.answers.specs.declared.Value.TheVariants.{Ok, Error}
+use Rattle.answers.specs.declared.Value.TheVariants.{Error}
+use Rattle.answers.specs.declared.Value.TheVariants as Value
 use Rattle.answers.specs.declared.Reason.{Reason}
 use Rattle.answers.specs.declared.Reason.TheVariants.{Done, TableLength, Unsound, IndexWrong}
 use Rattle.indexes.specs.Index.{index_of_table}
@@ -70,14 +74,17 @@ holds false e = absurd (true≢false e)
 -- ---- the table
 
 module _ (t : List ℕ) where
-  pub table_done : sound names_per_group t ≡ true → Done ≡ first (no_table t)
-  table_done h = rw (eq-eqb (length t) (table_words names_per_group) (test-regular names_per_group t h).2, h)
-
-  pub table-unsound : sound names_per_group t ≡ false → length t ≡ table_words names_per_group → Unsound ≡ first (no_table t)
-  table-unsound h e = rw (eq-eqb (length t) (table_words names_per_group), h)
-
-  pub table-long : (length t ≡ table_words names_per_group → ⊥) → TableLength ≡ first (no_table t)
-  table-long e = rw (ne_eqb (length t) (table_words names_per_group))
+  -- what the check of a table answers
+  pub table-verdict : cond (sound names_per_group t) (Ok tt) (Err (why t)) ≡ checked (first (no_table t))
+  table-verdict =
+      ⊎_elim
+      (λ (h : sound names_per_group t ≡ true). rw (h, eq-eqb (length t) (table_words names_per_group) (test-regular names_per_group t h).2))
+      (λ (h : sound names_per_group t ≡ false).
+      ⊎_elim
+      (λ (e : eqb (length t) (table_words names_per_group) ≡ true). rw (h, e))
+      (λ (e : eqb (length t) (table_words names_per_group) ≡ false). rw (h, e))
+      (by_test (eqb (length t) (table_words names_per_group))))
+      (by_test (sound names_per_group t))
 
   -- a table without a reason is sound
   pub table_sound : first (no_table t) ≡ Done → (length t ≡ table_words names_per_group) × (sound names_per_group t ≡ true)
@@ -88,19 +95,31 @@ module _ (t : List ℕ) where
 -- ---- what is to be shown of a call: its answer, and what has become of the table, the index and the run for a list
 
 abbrev pub Gives : Indexed → List ℕ → Answer → List ℕ → List ℕ → List ℕ → Type 0
-Gives d out a t x o = (a ≡ d.given.answer) × ((t ≡ d.given.table) × ((x ≡ d.index) × (o ≡ listed_over d.given.list out)))
+Gives d out a t x o =
+    record {
+      value : a ≡ d.given.answer;
+      table_after : t ≡ d.given.table;
+      index_after : x ≡ d.index;
+      out_after : o ≡ listed_over d.given.list out;
+    }
 
 -- the answer and the list alone
 abbrev pub Tells : Call → List ℕ → Answer → List ℕ → Type 0
-Tells d out a o = (a ≡ d.answer) × (o ≡ listed_over d.list out)
+Tells d out a o = record { value : a ≡ d.answer; out_after : o ≡ listed_over d.list out }
 
 -- ---- the table and its index
 
 module _ (t x : List ℕ) where
   -- a reason of the table stands before the index's
-  pub index-after-table : {r : Reason} → r ≡ first (no_table t) → is_done r ≡ false → r ≡ first (no_index t x)
-  index-after-table e h =
-      e ∙ sym (two_refuses (not (eqb (length t) (table_words names_per_group))) (not (sound names_per_group t)) (not (same x (index_of_table names_per_group t))) (rw e at h)).0
+  pub index-after-table : is_done (first (no_table t)) ≡ false → first (no_table t) ≡ first (no_index t x)
+  index-after-table h =
+      sym (two_refuses (not (eqb (length t) (table_words names_per_group))) (not (sound names_per_group t)) (not (same x (index_of_table names_per_group t))) h).0
+
+  -- so it refuses the table and its index
+  pub refused-after : {v : Verdict} → v ≡ checked (first (no_table t)) → {r : Reason} → v ≡ Err r → Err r ≡ checked (first (no_index t x))
+  refused-after e h =
+      let f = Reasons.refuses e h in
+      sym h ∙ e ∙ ap checked (index-after-table (ap is_done (sym f.0) ∙ f.1))
 
   pub index-right : first (no_table t) ≡ Done → same x (index_of_table names_per_group t) ≡ true → Done ≡ first (no_index t x)
   index-right e h =
@@ -118,12 +137,12 @@ module _ (t x : List ℕ) where
       unless (same x (index_of_table names_per_group t)) (λ h. n (index-long (record { ok = e; is = (same-iff x (index_of_table names_per_group t)).0 h })))
 
   -- runs without a reason are a sound table and its index
-  pub index_there : {r : Reason} → r ≡ first (no_index t x) → r ≡ Done
-      → (length t ≡ table_words names_per_group) × ((sound names_per_group t ≡ true) × (x ≡ index_of_table names_per_group t))
-  index_there e d =
-      let q = three_done (not (eqb (length t) (table_words names_per_group))) (not (sound names_per_group t)) (not (same x (index_of_table names_per_group t))) (sym e ∙ d) in
+  pub index_there : first (no_index t x) ≡ Done
+      → record { t_len : length t ≡ table_words names_per_group; t_value : sound names_per_group t ≡ true; index_value : x ≡ index_of_table names_per_group t }
+  index_there d =
+      let q = three_done (not (eqb (length t) (table_words names_per_group))) (not (sound names_per_group t)) (not (same x (index_of_table names_per_group t))) d in
       let h = holds (sound names_per_group t) q.0 in
-      ((test-regular names_per_group t h).2, (h, (same-iff x (index_of_table names_per_group t)).0 (holds (same x (index_of_table names_per_group t)) q.1)))
+      record { t_len = (test-regular names_per_group t h).2; t_value = h; index_value = (same-iff x (index_of_table names_per_group t)).0 (holds (same x (index_of_table names_per_group t)) q.1) }
 
   -- ---- what a call gives
 
@@ -139,52 +158,56 @@ module _ (t x : List ℕ) where
     unfolding indexed
     indexed-done e d = rw (sym e ∙ d)
 
-  module _ (i : ℕ) (c : Command) (out : List ℕ) {r : Reason} (e : r ≡ first (no_index t x)) where
+  module _ (i : ℕ) (c : Command) (out : List ℕ) {v : Verdict} (e : v ≡ checked (first (no_index t x))) where
     -- refused, and every word stays
-    pub gives_refused : {a : Answer} → a ≡ answer_of Error r → is_done r ≡ false → Gives (indexed (length out) i c t x) out a t x out
-    gives_refused {a} q h = subst (λ (d : Indexed). Gives d out a t x out) (sym (indexed-refused (length out) i c e h)) (q, (refl, (refl, refl)))
+    pub gives_refused : {a : Answer} {r : Reason} → v ≡ Err r → a ≡ answer_of Error r → Gives (indexed (length out) i c t x) out a t x out
+    gives_refused {a} h q =
+        let f = Reasons.refuses e h in
+        subst (λ (d : Indexed). Gives d out a t x out) (sym (indexed-refused (length out) i c f.0 f.1)) (record { value = q; table_after = refl; index_after = refl; out_after = refl })
 
     -- what the call without an index gives, beside the index of the table that is left
-    pub gives-done : r ≡ Done → {a : Answer} {u y o : List ℕ} → Gives (beside (call (length out) i c t)) out a u y o → Gives (indexed (length out) i c t x) out a u y o
-    gives-done d {a} {u} {y} {o} g = subst (λ (f : Indexed). Gives f out a u y o) (sym (indexed-done (length out) i c e d)) g
+    pub gives-done : v ≡ Ok tt → {a : Answer} {u y o : List ℕ} → Gives (beside (call (length out) i c t)) out a u y o → Gives (indexed (length out) i c t x) out a u y o
+    gives-done h {a} {u} {y} {o} g = subst (λ (f : Indexed). Gives f out a u y o) (sym (indexed-done (length out) i c refl (passes e h))) g
 
-  -- ---- a command that only reads: its answer and its list
+    -- ---- a command that only reads: its answer and its list
 
-  module _ (i : ℕ) (c : Command) (out : List ℕ) {r : Reason} (e : r ≡ first (no_index t x)) where
-    pub tells-refused : {a : Answer} → a ≡ answer_of Error r → is_done r ≡ false → Tells (indexed (length out) i c t x).given out a out
-    tells-refused q h = let g = gives_refused i c out e q h in (g.0, g.1.1.1)
+    pub tells-refused : {a : Answer} {r : Reason} → v ≡ Err r → a ≡ answer_of Error r → Tells (indexed (length out) i c t x).given out a out
+    tells-refused h q = let g = gives_refused h q in record { value = g.value; out_after = g.out_after }
 
-    pub tells-done : r ≡ Done → {a : Answer} {o : List ℕ} → Tells (call (length out) i c t) out a o → Tells (indexed (length out) i c t x).given out a o
-    tells-done d {a} {o} g = subst (λ (f : Indexed). Tells f.given out a o) (sym (indexed-done (length out) i c e d)) g
+    pub tells-done : v ≡ Ok tt → {a : Answer} {o : List ℕ} → Tells (call (length out) i c t) out a o → Tells (indexed (length out) i c t x).given out a o
+    tells-done h {a} {o} g = subst (λ (f : Indexed). Tells f.given out a o) (sym (indexed-done (length out) i c refl (passes e h))) g
 
   -- ---- reading by pid
 
-  pub read-refused : (p : ℕ) (out : List ℕ) {r : Reason} → r ≡ first (no_index t x) → {a : Answer} → a ≡ answer_of Error r → is_done r ≡ false → Tells (read (length out) p t x) out a out
+  pub read-refused : (p : ℕ) (out : List ℕ) {v : Verdict} → v ≡ checked (first (no_index t x)) → {a : Answer} {r : Reason} → v ≡ Err r → a ≡ answer_of Error r → Tells (read (length out) p t x) out a out
   unfolding read
-  read-refused p out {r} e {a} q h =
-      let f : is_done (first (no_index t x)) ≡ false = rw e at h in
+  read-refused p out e {a} {r} h q =
+      let g = Reasons.refuses e h in
+      let f : is_done (first (no_index t x)) ≡ false = ap is_done (sym g.0) ∙ g.1 in
       let long = not (eqb (length t) (table_words names_per_group)) in
       let bad = not (sound names_per_group t) in
       let wrong = not (same x (index_of_table names_per_group t)) in
-      rw (three-first long bad wrong _ f, three-refuses long bad wrong f, ← e) (q, refl)
+      rw (three-first long bad wrong _ f, three-refuses long bad wrong f, ← g.0) (record { value = q; out_after = refl })
 
   -- ---- writing
 
-  pub written-refused : {r : Reason} → r ≡ first (no_table t) → is_done r ≡ false → written t x ≡ left r t x
-  unfolding written
-  written-refused {r} e h =
-      let q = two_refuses (not (eqb (length t) (table_words names_per_group))) (not (sound names_per_group t)) (not (eqb (length x) (index_words names_per_group))) (rw e at h) in
-      rw (q.0, e, q.1)
-
-  module _ {r : Reason} (e : r ≡ first (no_table t)) (d : r ≡ Done) where
-    pub written-misfit : (length x ≡ index_words names_per_group → ⊥) → written t x ≡ left IndexWrong t x
+  module _ {v : Verdict} (e : v ≡ checked (first (no_table t))) where
+    pub written-refused : {r : Reason} → v ≡ Err r → written t x ≡ left r t x
     unfolding written
-    written-misfit n =
-        let q = table_sound t (sym e ∙ d) in
-        rw (eq-eqb (length t) (table_words names_per_group) q.0, q.1, ne_eqb (length x) (index_words names_per_group) n)
+    written-refused {r} h =
+        let f = Reasons.refuses e h in
+        let q = two_refuses (not (eqb (length t) (table_words names_per_group))) (not (sound names_per_group t)) (not (eqb (length x) (index_words names_per_group))) (ap is_done (sym f.0) ∙ f.1) in
+        rw (q.0, f.0, q.1)
 
-    pub written-done : length x ≡ index_words names_per_group → written t x ≡ beside (record { answer = answer_of Ok Done; list = []; table = t })
-    unfolding written
-    written-done n =
-        let q = table_sound t (sym e ∙ d) in
-        rw (eq-eqb (length t) (table_words names_per_group) q.0, q.1, eq-eqb (length x) (index_words names_per_group) n)
+    module _ (h : v ≡ Ok tt) where
+      pub written-misfit : (length x ≡ index_words names_per_group → ⊥) → written t x ≡ left IndexWrong t x
+      unfolding written
+      written-misfit n =
+          let q = table_sound t (passes e h) in
+          rw (eq-eqb (length t) (table_words names_per_group) q.0, q.1, ne_eqb (length x) (index_words names_per_group) n)
+
+      pub written-done : length x ≡ index_words names_per_group → written t x ≡ beside (record { answer = answer_of Value.Ok Done; list = []; table = t })
+      unfolding written
+      written-done n =
+          let q = table_sound t (passes e h) in
+          rw (eq-eqb (length t) (table_words names_per_group) q.0, q.1, eq-eqb (length x) (index_words names_per_group) n)

@@ -1,59 +1,48 @@
 // Calls on a table with an index beside it: opening and the fifteen commands, which keep it, reading by pid, and writing the index of a table that has none.
 #![tactic(auto)]
 
-ghost use Rattle.std.specs.Prelude.{◌≡◌, true, List, ℕ, length};
+ghost use Rattle.std.specs.Prelude.{◌≡◌, List, ℕ, length};
 ghost use Rattle.commands.specs.declared.Command.TheVariants.{RegisteredNames, WhereisName, OwnNodes, OwnSGroups};
-ghost use Rattle.semantics.specs.Sizes.{names_per_group, table_words, index_words};
-ghost use Rattle.semantics.specs.Test.{same, sound};
+ghost use Rattle.semantics.specs.Sizes.{names_per_group, index_words};
+ghost use Rattle.semantics.specs.Test.{same};
 ghost use Rattle.indexes.specs.Index.{index_of_table};
 ghost use Rattle.semantics.specs.FirstReason.{first};
+ghost use Rattle.inputs.specs.Judge.{checked};
 ghost use Rattle.semantics.specs.Call.{listed_over};
-ghost use Rattle.indexes.specs.IndexCalls.{no_table, no_index, indexed, opened, written, read};
+ghost use Rattle.indexes.specs.IndexCalls.{no_index, indexed, opened, written, read};
 
 use answers::{Answer, Reason, Value, done, refused};
 use commands::Command;
 use index_test::is_index;
 use layout::{INDEX_WORDS, NODE_LIMIT, TABLE_WORDS};
-use table::is_sound;
-
-// Why the run is no sound table.
-fn table_reason(table: &[u64]) -> Reason
-    ensures { result ≡ first (no_table table.now) }
-{
-    if is_sound(table) {
-        return Reason::Done;
-    }
-    if table.len() == TABLE_WORDS {
-        return Reason::Unsound;
-    }
-    Reason::TableLength
-}
+use sound_table::SoundTable;
+use table::check;
 
 // Whether the run is the index of the table, which is sound. It is called from two places, so that what it keeps on the stack is not there while the table
 // is tested; and it hands on parts that are the whole, since slices that are handed on as they are would stay in its callers' frames.
-fn is_right(table: &[u64], index: &[u64]) -> bool
-    requires table_len { length table.now ≡ table_words names_per_group }
-    requires table_value { sound names_per_group table.now ≡ true }
-    ensures { result ≡ same index.now (index_of_table names_per_group table.now) }
+fn is_right(table: SoundTable<'_>, index: &[u64]) -> bool
+    ensures { result ≡ same index.now (index_of_table names_per_group table.entry.words.now) }
 {
     if index.len() == INDEX_WORDS {
-        return is_index(&table[0..], &index[0..]);
+        return is_index(
+            SoundTable {
+                words: &table.words[0..],
+            },
+            &index[0..],
+        );
     }
     false
 }
 
-// Why the runs are no sound table with its index.
-fn index_reason(table: &[u64], index: &[u64]) -> Reason
-    ensures { result ≡ first (no_index table.now index.now) }
+// The runs are a sound table and its index.
+fn check_index(table: &[u64], index: &[u64]) -> Result<(), Reason>
+    ensures { result ≡ checked (first (no_index table.now index.now)) }
 {
-    let reason = table_reason(table);
-    let Reason::Done = reason else {
-        return reason;
-    };
-    if is_right(table, index) {
-        return Reason::Done;
+    check(table)?;
+    if is_right(SoundTable { words: table }, index) {
+        return Ok(());
     }
-    Reason::IndexWrong
+    Err(Reason::IndexWrong)
 }
 
 // What the caller's command answers on the table; a list goes to the front of `out`, and the index is kept.
@@ -69,11 +58,10 @@ pub fn call(
     ensures index_after { index.new ≡ (indexed (length out.old) caller command table.old index.old).index }
     ensures out_after { out.new ≡ listed_over (indexed (length out.old) caller command table.old index.old).given.list out.old }
 {
-    let reason = table_reason(table);
-    let Reason::Done = reason else {
+    if let Err(reason) = check(table) {
         return refused(reason);
-    };
-    if is_right(table, index) {
+    }
+    if is_right(SoundTable { words: table }, index) {
         return indexing::step(table, index, out, caller, command);
     }
     refused(Reason::IndexWrong)
@@ -86,10 +74,7 @@ fn misfit(table: &[u64], n: u32) -> Answer
     if table.len() != TABLE_WORDS {
         return refused(Reason::TableLength);
     }
-    if n < 1 {
-        return refused(Reason::RosterSize);
-    }
-    if NODE_LIMIT < n as usize {
+    if n < 1 || NODE_LIMIT < n as usize {
         return refused(Reason::RosterSize);
     }
     refused(Reason::IndexWrong)
@@ -105,8 +90,7 @@ pub fn open(table: &mut [u64], index: &mut [u64], n: u32, hidden: u64) -> Answer
         return misfit(table, n);
     }
     let answer = opening::open(table, n, hidden);
-    let reason = answer.reason;
-    if answers::number(reason) == 0 {
+    if answer.reason == Reason::Done {
         moves::clear(index);
     }
     answer
@@ -117,14 +101,13 @@ pub fn write(table: &[u64], index: &mut [u64]) -> Answer
     ensures value { result ≡ (written table.now index.old).given.answer }
     ensures index_after { index.new ≡ (written table.now index.old).index }
 {
-    let reason = table_reason(table);
-    let Reason::Done = reason else {
+    if let Err(reason) = check(table) {
         return refused(reason);
-    };
+    }
     if index.len() != INDEX_WORDS {
         return refused(Reason::IndexWrong);
     }
-    index_writing::write(table, index);
+    index_writing::write(SoundTable { words: table }, index);
     done(Value::Ok)
 }
 
@@ -133,11 +116,10 @@ pub fn names_of(table: &[u64], index: &[u64], p: u32, out: &mut [u64]) -> Answer
     ensures value { result ≡ (read (length out.old) p table.now index.now).answer }
     ensures out_after { out.new ≡ listed_over (read (length out.old) p table.now index.now).list out.old }
 {
-    let reason = index_reason(table, index);
-    let Reason::Done = reason else {
+    if let Err(reason) = check_index(table, index) {
         return refused(reason);
-    };
-    index_reading::names_of(table, index, p, out)
+    }
+    index_reading::names_of(SoundTable { words: table }, index, p, out)
 }
 
 // ---- the commands that only read: a caller may hold a table that it cannot lend for writing, as a const one of C
@@ -153,33 +135,30 @@ pub fn registered_names(
     ensures value { result ≡ (indexed (length out.old) caller (RegisteredNames s) table.now index.now).given.answer }
     ensures out_after { out.new ≡ listed_over (indexed (length out.old) caller (RegisteredNames s) table.now index.now).given.list out.old }
 {
-    let reason = index_reason(table, index);
-    let Reason::Done = reason else {
+    if let Err(reason) = check_index(table, index) {
         return refused(reason);
-    };
-    reading::registered_names(table, caller, s, out)
+    }
+    reading::registered_names(SoundTable { words: table }, caller, s, out)
 }
 
 // What the caller finds under the name in the s_group.
 pub fn whereis_name(table: &[u64], index: &[u64], caller: u32, s: u32, n: u32) -> Answer
     ensures { result ≡ (indexed 0 caller (WhereisName s n) table.now index.now).given.answer }
 {
-    let reason = index_reason(table, index);
-    let Reason::Done = reason else {
+    if let Err(reason) = check_index(table, index) {
         return refused(reason);
-    };
-    reading::whereis_name(table, caller, s, n)
+    }
+    reading::whereis_name(SoundTable { words: table }, caller, s, n)
 }
 
 // The nodes of the caller's groups, and how many they are.
 pub fn own_nodes(table: &[u64], index: &[u64], caller: u32) -> Answer
     ensures { result ≡ (indexed 0 caller OwnNodes table.now index.now).given.answer }
 {
-    let reason = index_reason(table, index);
-    let Reason::Done = reason else {
+    if let Err(reason) = check_index(table, index) {
         return refused(reason);
-    };
-    own::own_nodes(table, caller)
+    }
+    own::own_nodes(SoundTable { words: table }, caller)
 }
 
 // The caller's s_groups, name and members of each, listed in the run.
@@ -187,9 +166,8 @@ pub fn own_s_groups(table: &[u64], index: &[u64], caller: u32, out: &mut [u64]) 
     ensures value { result ≡ (indexed (length out.old) caller OwnSGroups table.now index.now).given.answer }
     ensures out_after { out.new ≡ listed_over (indexed (length out.old) caller OwnSGroups table.now index.now).given.list out.old }
 {
-    let reason = index_reason(table, index);
-    let Reason::Done = reason else {
+    if let Err(reason) = check_index(table, index) {
         return refused(reason);
-    };
-    own::own_s_groups(table, caller, out)
+    }
+    own::own_s_groups(SoundTable { words: table }, caller, out)
 }

@@ -1,7 +1,7 @@
 -- The index of a sound table and that of the table after a call: its rows are updated where the command is done, and else they stay. Assumes nothing.
 use Rattle.std.specs.Prelude.{◌≡◌, Bool, true, cond, List, ℕ, ◌*◌, ◌≤◌, eqb, length}
 use Rattle.std.proofs.Math.Path.{sym, ap}
-use Rattle.std.proofs.Common.{◌∙◌, arith, eq-eqb, ne_eqb}
+use Rattle.std.proofs.Common.{◌∙◌, arith}
 use Rattle.std.proofs.Math.Bool.{false}
 use Rattle.answers.specs.Answers.{number}
 use Rattle.answers.specs.declared.Answer.{Answer}
@@ -13,6 +13,7 @@ use Rattle.semantics.specs.Steps.{step}
 use Rattle.semantics.specs.Call.{Call, call}
 use Rattle.semantics.proofs.Calls.{call-sound}
 use Rattle.semantics.specs.Fits.{Fits}
+use Rattle.inputs.specs.Judge.{is_done}
 use Rattle.semantics.specs.Regular.{Regular}
 use Rattle.semantics.proofs.RoundTrip.{round_trip}
 use Rattle.semantics.proofs.StepsKeep.{keeps}
@@ -48,25 +49,24 @@ module _ {t x : List ℕ} (h : Paired t x) where
     reason : number (call room i c t).answer.reason ≡ number (step room i c st).answer.reason
     reason = ap (λ (d : Call). number d.answer.reason) (call-sound room i c t h.ok)
 
-    module _ {n : ℕ} {a : Answer} (says : n ≡ number a.reason) (gives : a ≡ (call room i c t).answer) (b : Bool) (e : eqb n 0 ≡ b) where
-      rows : sorted (walk next.groups) ≡ cond b (updated (update_of c st.groups) (sorted (all_rows t))) (sorted (all_rows t))
-      rows =
+    module _ {a : Answer} (gives : a ≡ (call room i c t).answer) where
+      rows : {b : Bool} → is_done a.reason ≡ b → sorted (walk next.groups) ≡ cond b (updated (update_of c st.groups) (sorted (all_rows t))) (sorted (all_rows t))
+      rows {b} e =
           step-rows room i c st regular
-          ∙ ap (λ (m : ℕ). cond (eqb m 0) (updated (update_of c st.groups) (sorted (all_rows t))) (sorted (all_rows t))) (sym (says ∙ ap (λ (x : Answer). number x.reason) gives ∙ reason))
+          ∙ ap (λ (m : ℕ). cond (eqb m 0) (updated (update_of c st.groups) (sorted (all_rows t))) (sorted (all_rows t))) (sym (ap (λ (x : Answer). number x.reason) gives ∙ reason))
           ∙ ap (λ (d : Bool). cond d (updated (update_of c st.groups) (sorted (all_rows t))) (sorted (all_rows t))) e
 
-    module _ {n : ℕ} {a : Answer} (says : n ≡ number a.reason) (gives : a ≡ (call room i c t).answer) where
       -- after a command that is done the updated rows are the index of the table
-      pub index-done : n ≡ 0 → {count : ℕ} {u : Update} → count ≡ length (all_rows t) → u ≡ update_of c st.groups → {y : List ℕ}
+      pub index-done : is_done a.reason ≡ true → {count : ℕ} {u : Update} → count ≡ length (all_rows t) → u ≡ update_of c st.groups → {y : List ℕ}
           → ((xs : List Row) → Fills count xs x → row_words * length (updated u xs) ≤ length x → y ≡ laid (length x) (updated u xs))
           → y ≡ index_of_table names_per_group (call room i c t).table
       index-done z {count} {u} many is {y} l =
-          let e : sorted (walk next.groups) ≡ updated u (sorted (all_rows t)) = rows says gives true (eq-eqb n 0 z) ∙ ap (λ (v : Update). updated v (sorted (all_rows t))) (sym is) in
+          let e : sorted (walk next.groups) ≡ updated u (sorted (all_rows t)) = rows z ∙ ap (λ (v : Update). updated v (sorted (all_rows t))) (sym is) in
           let roomy : row_words * length (updated u (sorted (all_rows t))) ≤ length x =
           omega (arith, index-long h, ap length e, length-sorted (walk next.groups), step_count room i c st regular fits) in
           l (sorted (all_rows t)) (index-fills h count many) roomy ∙ ap (λ (k : ℕ). laid k (updated u (sorted (all_rows t)))) (index-long h) ∙ ap (laid (index_words names_per_group)) (sym e) ∙ sym after
 
       -- after any other the rows that were there
-      pub index_kept : (n ≡ 0 → ⊥) → x ≡ index_of_table names_per_group (call room i c t).table
+      pub index_kept : is_done a.reason ≡ false → x ≡ index_of_table names_per_group (call room i c t).table
       unfolding index_of
-      index_kept z = h.is ∙ ap (laid (index_words names_per_group)) (sym (rows says gives false (ne_eqb n 0 z))) ∙ sym after
+      index_kept z = h.is ∙ ap (laid (index_words names_per_group)) (sym (rows z)) ∙ sym after

@@ -1,4 +1,3 @@
-pub mod Arms
 pub mod Found
 pub mod Kept
 pub mod PidFound

@@ -12,13 +12,12 @@ ghost use Rattle.indexes.specs.Index.{key_of, index_of_table};
 ghost use Rattle.indexes.specs.Updates.{pid_in, moved, taken, leaving, update_of};
 ghost use Rattle.indexing.specs.PidFound.{pid_found};
 
-use answers::Answer;
+use answers::{Answer, Reason};
 use commands::Command;
-use entries::{Found, HALF_WORD};
+use entries::HALF_WORD;
 use index_test::names_total;
 use indexes::Update;
-use layout::MEMBERS_AT;
-use place::Place;
+use sound_table::SoundTable;
 
 // The key of a pid in an s_group.
 fn key_of(p: u32, s: u32) -> u64
@@ -27,41 +26,36 @@ fn key_of(p: u32, s: u32) -> u64
     (p as u64) * HALF_WORD + s as u64
 }
 
-// What stands under the name in the s_group.
-fn find_in(t: &[u64], s: u32, n: u32) -> Found
-    requires t_len { length t.now ≡ table_words names_per_group }
-    requires t_value { sound names_per_group t.now ≡ true }
-    ensures { pid_found result ≡ pid_in n (find s (state_of names_per_group t.now).groups) }
+// The pid that stands under the name in the s_group.
+fn find_in(t: SoundTable<'_>, s: u32, n: u32) -> Option<u32>
+    ensures { pid_found result ≡ pid_in n (find s (state_of names_per_group t.entry.words.now).groups) }
 {
-    match place::place_of(t, s) {
-        Place::At(at) => names::find_name(t, at, n),
-        Place::Gap(_) => Found::Absent,
-    }
+    let Ok(at) = place::place_of(t, s) else {
+        return None;
+    };
+    let (_, pid) = names::find_name(t.words, at, n).ok()?;
+    Some(pid)
 }
 
 // Whose names leave when the members in the set leave the s_group: theirs, or all where none is left.
-fn leaving(t: &[u64], s: u32, set: u64) -> u64
-    requires t_len { length t.now ≡ table_words names_per_group }
-    requires t_value { sound names_per_group t.now ≡ true }
-    ensures { result ≡ leaving set (find s (state_of names_per_group t.now).groups) }
+fn leaving(t: SoundTable<'_>, s: u32, set: u64) -> u64
+    ensures { result ≡ leaving set (find s (state_of names_per_group t.entry.words.now).groups) }
 {
-    match place::place_of(t, s) {
-        Place::At(at) => {
-            let members = t[MEMBERS_AT + at];
-            if nodes::diff(members, set) == 0 {
-                return nodes::roster(nodes::NODE_LIMIT);
-            }
-            nodes::inter(members, set)
-        }
-        Place::Gap(_) => 0,
+    let Ok(at) = place::place_of(t, s) else {
+        return 0;
+    };
+    let members = t.members()[at];
+    if nodes::diff(members, set) == 0 {
+        return nodes::roster(nodes::NODE_LIMIT);
     }
+    nodes::inter(members, set)
 }
 
-// What the command makes of the rows where it is done.
-fn update_of(t: &[u64], command: Command) -> Update
-    requires t_len { length t.now ≡ table_words names_per_group }
-    requires t_value { sound names_per_group t.now ≡ true }
-    ensures value { result ≡ update_of command (state_of names_per_group t.now).groups }
+// What the command makes of the rows where it is done. Each command has an arm of its own: in arms that are joined the ranges of the arguments,
+// which `fits` promises, are not known (tried).
+#[tactic(auto, unfolding(indexes::specs::Updates::update_of))]
+fn update_of(t: SoundTable<'_>, command: Command) -> Update
+    ensures value { result ≡ update_of command (state_of names_per_group t.entry.words.now).groups }
     ensures fits { Fits command }
 {
     match command {
@@ -84,24 +78,22 @@ fn update_of(t: &[u64], command: Command) -> Update
 }
 
 // A re-registration: the row of the pid that the name had moves.
-fn moved(found: Found, s: u32, n: u32, p: u32) -> Update
+fn moved(found: Option<u32>, s: u32, n: u32, p: u32) -> Update
     ensures { result ≡ moved s n p (pid_found found) }
 {
     match found {
-        Found::At(_, q) => Update::Moved(key_of(q, s), key_of(p, s), n),
-        Found::Absent => Update::More(key_of(p, s), n),
-        Found::Unfit => Update::More(key_of(p, s), n),
+        Some(q) => Update::Moved(key_of(q, s), key_of(p, s), n),
+        None => Update::More(key_of(p, s), n),
     }
 }
 
 // The row of the pid that the name had goes.
-fn taken(found: Found, s: u32) -> Update
+fn taken(found: Option<u32>, s: u32) -> Update
     ensures { result ≡ taken s (pid_found found) }
 {
     match found {
-        Found::At(_, q) => Update::Less(key_of(q, s)),
-        Found::Absent => Update::Nothing,
-        Found::Unfit => Update::Nothing,
+        Some(q) => Update::Less(key_of(q, s)),
+        None => Update::Nothing,
     }
 }
 
@@ -121,11 +113,11 @@ pub fn step(
     ensures out_after { out.new ≡ listed_over (call (length out.old) caller command t.old).list out.old }
     ensures index_after { index.new ≡ index_of_table names_per_group (call (length out.old) caller command t.old).table }
 {
-    let count = names_total(t);
-    let change = update_of(t, command);
+    let table = SoundTable { words: t };
+    let count = names_total(table);
+    let change = update_of(table, command);
     let answer = step::step(t, out, caller, command);
-    let reason = answer.reason;
-    if answers::number(reason) == 0 {
+    if answer.reason == Reason::Done {
         index_rows::update(index, count, change);
     }
     answer

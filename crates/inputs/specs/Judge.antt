@@ -1,5 +1,5 @@
 -- The reasons that the code finds before it looks at an s_group, from plain numbers. Definitions only. Assumes nothing.
-use Rattle.std.specs.Prelude.{Bool, not, cond, ℕ, eqb, leb}
+use Rattle.std.specs.Prelude.{Bool, not, cond, Result, Ok, Err, ℕ, eqb, leb}
 use Rattle.nodes.specs.Sets.{has, beyond}
 use Rattle.entries.specs.Entries.{host}
 use Rattle.answers.specs.Answers.{number}
@@ -11,6 +11,14 @@ use Rattle.answers.specs.declared.Reason.TheVariants.{Done, CallerUnknown, Group
 -- whether nothing speaks against
 abbrev pub is_done : Reason → Bool
 is_done r = eqb (number r) 0
+
+-- what a check answers: nothing, or as an error what speaks against
+abbrev pub Verdict : Type 0
+Verdict = Result Unit Reason
+
+-- the reason as a verdict, with nothing for Done
+abbrev pub checked : Reason → Verdict
+checked r = cond (is_done r) (Ok tt) (Err r)
 
 -- r, or q where r is Done
 abbrev pub first_reason : Reason → Reason → Reason

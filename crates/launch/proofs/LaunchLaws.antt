@@ -1,5 +1,5 @@
 -- What a launch is, test by test, and after the plan of its groups. Assumes nothing.
-use Rattle.std.specs.Prelude.{◌≡◌, Bool, true, false, not, ◌||◌, cond, List, [], ◌∷◌, ℕ, ◌*◌, ◌≤◌, ◌<◌, eqb, ltb, length, get_or, take}
+use Rattle.std.specs.Prelude.{◌≡◌, Result, Ok, Err, Bool, true, false, not, ◌||◌, cond, List, [], ◌∷◌, ℕ, ◌*◌, ◌≤◌, ◌<◌, eqb, ltb, length, get_or, take}
 use Rattle.std.proofs.Math.Path.{refl}
 use Rattle.std.proofs.Common.{sym, ap, ◌∙◌, true≢false}
 use Rattle.std.proofs.lemmas.Bool.{false≢true}
@@ -8,7 +8,7 @@ use borrow.Author.Tests.{eq-eqb, ne_eqb, lt-ltb, le-ltb, ltb-false}
 use Rattle.nodes.specs.NodeSets.{node_limit, beyond}
 use Rattle.answers.specs.Answers.{refuses, answer_of}
 use Rattle.answers.specs.declared.Answer.{Answer}
-use Rattle.answers.specs.declared.Value.TheVariants.{Ok, Error}
+use Rattle.answers.specs.declared.Value.TheVariants as Value
 use Rattle.answers.specs.declared.Reason.{Reason}
 use Rattle.answers.specs.declared.Reason.TheVariants.{Done, TableLength, RosterSize, NodeUnknown, GroupsFull, NoLaunchFile, GroupsDiffer, AtomUnknown}
 use Rattle.semantics.specs.Sizes.{group_limit, names_per_group, table_words}
@@ -17,15 +17,15 @@ use Rattle.semantics.specs.Call.{opening}
 use Rattle.semantics.proofs.Calls.{opening-gives-sound}
 use Rattle.semantics.proofs.Agree.{sound-iff}
 use Rattle.semantics.specs.Test.{sound}
+use Rattle.pairs.specs.declared.Made.{Made}
 use Rattle.pairs.specs.Woven.{woven, woven-take}
 use Rattle.creating.specs.Creating.{created}
 use Rattle.grammar.specs.File.{Group, Outcome, taken, refused, outcome}
 use Rattle.walk.specs.Groups.{groups}
 use Rattle.launch_file.specs.Reading.{from_groups, read_as}
-use Rattle.launch_file.specs.declared.Reading.{Reading}
 use Rattle.book.specs.Book.{lines, fit}
 use Rattle.duplicates.specs.Duplicates.{kept, clash}
-use Rattle.plan.specs.declared.Plan.TheVariants.{Clash, Unknown, TooMany, Fits}
+use Rattle.plan.specs.declared.Misfit.TheVariants.{Clash, Unknown, TooMany}
 use Rattle.plan.specs.Plan.{all_listed, plan_words, fitting, verdict}
 use Rattle.gathering.specs.Gathering.{Planned}
 use Rattle.launch.specs.Launch.{Launch, found, no_file, place_of_refusal, made, launch}
@@ -60,7 +60,7 @@ module _ (N hidden start : ℕ) (book file t : List ℕ) where
           start-beyond h = rw (eq-eqb (length t) (table_words names_per_group) long, no_zero, le-ltb node_limit N few, on, le-ltb start N h)
 
 module _ (N hidden : ℕ) (t : List ℕ) (k : Open N hidden t) where
-  pub opened-ok : (opening N hidden t).answer ≡ answer_of Ok Done
+  pub opened-ok : (opening N hidden t).answer ≡ answer_of Value.Ok Done
   unfolding opening
   opened-ok = rw (eq-eqb (length t) (table_words names_per_group) k.long, ne_eqb N 0 (λ z. omega (arith, k.some)), le-ltb node_limit N k.few, k.on)
 
@@ -78,8 +78,8 @@ later_tests N start book o =
 abbrev given : ℕ → ℕ → List ℕ → Outcome → List ℕ → Reason → Launch
 given N hidden book o t r =
     cond (refuses r)
-    (record { answer = answer_of Error r; place = place_of_refusal r N book o; table = t })
-    (record { answer = answer_of Ok Done; place = 0; table = made N book (kept (found o)) (opening N hidden t).table })
+    (record { answer = answer_of Value.Error r; place = place_of_refusal r N book o; table = t })
+    (record { answer = answer_of Value.Ok Done; place = 0; table = made N book (kept (found o)) (opening N hidden t).table })
 
 module _ (N hidden start : ℕ) (book file t : List ℕ) (k : InOrder N hidden start t) where
   -- they decide
@@ -97,7 +97,7 @@ module _ (N hidden start : ℕ) (book file t : List ℕ) (k : InOrder N hidden s
 
     module _ (gs : List Group) (e : outcome file ≡ taken gs) where
       planned-by : (x y z : Bool) → clash gs (get_or (lines book) start []) ≡ x → not (all_listed N book (kept gs)) ≡ y → ltb group_limit (length (kept gs)) ≡ z
-          → launch N hidden start book file t ≡ by_plan N hidden book gs t (cond x Clash (cond y Unknown (cond z TooMany (Fits (length (kept gs))))))
+          → launch N hidden start book file t ≡ by_plan N hidden book gs t (cond x (Err Clash) (cond y (Err Unknown) (cond z (Err TooMany) (Ok (length (kept gs))))))
       planned-by true y z p q r = later (taken gs) e ∙ rw (b, p)
       planned-by false true z p q r = later (taken gs) e ∙ rw (b, p, q)
       planned-by false false true p q r = later (taken gs) e ∙ rw (b, p, q, r)
@@ -108,11 +108,11 @@ module _ (N hidden start : ℕ) (book file t : List ℕ) (k : InOrder N hidden s
       planned = planned-by _ _ _ refl refl refl
 
 -- groups that fit are no more than can be made
-pub fits-few : (N : ℕ) (book : List ℕ) (start : ℕ) (gs : List Group) (n : ℕ) → Fits n ≡ verdict N book start gs → n ≤ group_limit
+pub fits-few : (N : ℕ) (book : List ℕ) (start : ℕ) (gs : List Group) (n : ℕ) → Ok n ≡ verdict N book start gs → n ≤ group_limit
 unfolding verdict fitting
 fits-few N book start gs n = go (clash gs (get_or (lines book) start [])) (all_listed N book (kept gs)) (ltb group_limit (length (kept gs))) refl
   where
-    go : (x y z : Bool) → ltb group_limit (length (kept gs)) ≡ z → Fits n ≡ cond x Clash (cond (not y) Unknown (cond z TooMany (Fits (length (kept gs))))) → n ≤ group_limit
+    go : (x y z : Bool) → ltb group_limit (length (kept gs)) ≡ z → Ok n ≡ cond x (Err Clash) (cond (not y) (Err Unknown) (cond z (Err TooMany) (Ok (length (kept gs))))) → n ≤ group_limit
     go true y z l e = absurd (let q : ◌≡◌ {A = ℕ} 0 1 = cc in omega arith)
     go false false z l e = absurd (let q : ◌≡◌ {A = ℕ} 0 1 = cc in omega arith)
     go false true true l e = absurd (let q : ◌≡◌ {A = ℕ} 0 1 = cc in omega arith)
@@ -124,21 +124,16 @@ unfolding created plan_words made
 words-make N book [] t = refl
 words-make N book (g ∷ gs) t = words-make N book gs _
 
--- and so do its first k numbers and sets, where they are those words
-runs-make : (N : ℕ) (book : List ℕ) (gs : List Group) (numbers sets : List ℕ) (k : ℕ) (t : List ℕ)
-    → take (2 * k) (woven numbers sets) ≡ plan_words N book gs → created (woven (take k numbers) (take k sets)) t ≡ made N book gs t
-runs-make N book gs numbers sets k t e = ap (λ ws. created ws t) (sym (woven-take numbers sets k) ∙ e) ∙ words-make N book gs t
-
 -- a refusal leaves the table
-pub refuses-so : {l : Launch} {r : Reason} {p : ℕ} {t : List ℕ} {a : Answer} {q : ℕ} → l ≡ refusal r p t → (a ≡ answer_of Error r) × (q ≡ p) → Tells l a q t
+pub refuses-so : {l : Launch} {r : Reason} {p : ℕ} {t : List ℕ} {a : Answer} {q : ℕ} → l ≡ refusal r p t → (a ≡ answer_of Value.Error r) × (q ≡ p) → Tells l a q t
 refuses-so e w = rw e (w.0, (w.1, refl))
 
 -- a launch that goes through makes the groups of the plan's words
-pub makes_so : (N hidden : ℕ) (book : List ℕ) (gs : List Group) (t numbers sets : List ℕ) (k : ℕ) {l : Launch} {u : List ℕ}
-    → l ≡ record { answer = answer_of Ok Done; place = 0; table = made N book gs (opening N hidden t).table }
-    → u ≡ created (woven (take k numbers) (take k sets)) (opening N hidden t).table → take (2 * k) (woven numbers sets) ≡ plan_words N book gs
-    → Tells l (answer_of Ok Done) 0 u
-makes_so N hidden book gs t numbers sets k e w q = rw e (refl, (refl, w ∙ runs-make N book gs numbers sets k _ q))
+pub makes_so : (N hidden : ℕ) (book : List ℕ) (gs : List Group) (t : List ℕ) (ms : List Made) (k : ℕ) {l : Launch} {u : List ℕ}
+    → l ≡ record { answer = answer_of Value.Ok Done; place = 0; table = made N book gs (opening N hidden t).table }
+    → u ≡ created (woven (take k ms)) (opening N hidden t).table → take (2 * k) (woven ms) ≡ plan_words N book gs → Tells l (answer_of Value.Ok Done) 0 u
+makes_so N hidden book gs t ms k e w q =
+    rw e (refl, (refl, w ∙ ap (λ ws. created ws (opening N hidden t).table) (sym (woven-take ms k) ∙ q) ∙ words-make N book gs _))
 
 -- what tells the same tells it too
 pub tells-so : {l : Launch} {a b : Answer} {p q : ℕ} {t : List ℕ} → (a ≡ b) × (p ≡ q) → Tells l b q t → Tells l a p t
@@ -148,23 +143,24 @@ pub not-at-once : {N hidden : ℕ} {book file t : List ℕ} → AtOnce N hidden 
 not-at-once = record { went_through = λ e. absurd (false≢true e); untouched = λ e. refl }
 
 -- what one walk gathered makes the table
-pub made-at-once : (N hidden : ℕ) (book file t : List ℕ) (g k e : ℕ) (numbers sets u : List ℕ) → Open N hidden t → fit N book ≡ true
-    → outcome file ≡ taken (groups file g) → Planned N book file g (woven numbers sets) k e
-    → u ≡ created (woven (take k numbers) (take k sets)) (opening N hidden t).table → AtOnce N hidden book file t u true
-made-at-once N hidden book file t g k e numbers sets u o b w P c = record {
+pub made-at-once : (N hidden : ℕ) (book file t : List ℕ) (g k e : ℕ) (ms : List Made) (u : List ℕ) → Open N hidden t → fit N book ≡ true
+    → outcome file ≡ taken (groups file g) → Planned N book file g ms k e → u ≡ created (woven (take k ms)) (opening N hidden t).table
+    → AtOnce N hidden book file t u true
+made-at-once N hidden book file t g k e ms u o b w P c = record {
   went_through = λ _ start known.
       planned N hidden start book file t (record { opens = o; known = known }) b (groups file g) w
       ∙ ap (by_plan N hidden book (groups file g) t) (P.fits start)
-      ∙ ap (λ v. record { answer = answer_of Ok Done; place = 0; table = v }) (sym (c ∙ runs-make N book (kept (groups file g)) numbers sets k _ P.written));
+      ∙ ap (λ v. record { answer = answer_of Value.Ok Done; place = 0; table = v })
+      (sym (c ∙ ap (λ ws. created ws (opening N hidden t).table) P.makes ∙ words-make N book (kept (groups file g)) _));
   untouched = λ e. absurd (true≢false e);
 }
 
 -- a launch that went through is told so
-pub tells-through : {l : Launch} {u : List ℕ} {a : Answer} {p : ℕ} → l ≡ record { answer = answer_of Ok Done; place = 0; table = u } → (a ≡ answer_of Ok Done) × (p ≡ 0) → Tells l a p u
+pub tells-through : {l : Launch} {u : List ℕ} {a : Answer} {p : ℕ} → l ≡ record { answer = answer_of Value.Ok Done; place = 0; table = u } → (a ≡ answer_of Value.Ok Done) × (p ≡ 0) → Tells l a p u
 tells-through e w = rw e (w.0, (w.1, refl))
 
 -- reading said that a file whose groups begin at g is whole
-pub read_whole : (file : List ℕ) (g k : ℕ) (r : Reading) → outcome file ≡ from_groups file g → from_groups file g ≡ read_as file r → ((i : ℕ) → r ≡ Reading.Whole i → i ≡ g) → r ≡ Reading.Whole k
+pub read_whole : (file : List ℕ) (g k : ℕ) (r : Result ℕ ℕ) → outcome file ≡ from_groups file g → from_groups file g ≡ read_as file r → ((i : ℕ) → r ≡ Ok i → i ≡ g) → r ≡ Ok k
     → outcome file ≡ taken (groups file g)
 read_whole file g k r o f same is = o ∙ f ∙ ap (read_as file) is ∙ ap (λ i. taken (groups file i)) (same k is)
 

@@ -1,36 +1,41 @@
 -- What a launch is told by, and what its steps say: definitions only. Assumes nothing.
-use Rattle.std.specs.Prelude.{◌≡◌, Bool, true, false, List, ℕ, ◌≤◌, ◌<◌, length}
+use Rattle.std.specs.Prelude.{◌≡◌, Result, Ok, Err, Bool, true, false, List, ℕ, ◌≤◌, ◌<◌, length}
 use Rattle.nodes.specs.NodeSets.{node_limit, beyond}
 use Rattle.answers.specs.Answers.{answer_of}
 use Rattle.answers.specs.declared.Answer.{Answer}
-use Rattle.answers.specs.declared.Value.TheVariants.{Ok, Error}
+use Rattle.answers.specs.declared.Value.TheVariants as Value
 use Rattle.answers.specs.declared.Reason.{Reason}
 use Rattle.answers.specs.declared.Reason.TheVariants.{Done, GroupsFull, GroupsDiffer, AtomUnknown}
 use Rattle.semantics.specs.Sizes.{names_per_group, table_words}
 use Rattle.semantics.specs.Call.{opening}
-use Rattle.grammar.specs.File.{Group, taken, refused, outcome}
+use Rattle.grammar.specs.File.{Group, taken, outcome}
 use Rattle.walk.specs.Groups.{groups}
 use Rattle.launch_file.specs.Reading.{from_groups}
 use Rattle.duplicates.specs.Duplicates.{kept}
-use Rattle.plan.specs.declared.Plan.{Plan}
-use Rattle.plan.specs.declared.Plan.TheVariants.{Clash, Unknown, TooMany, Fits}
-use Rattle.launch.specs.declared.Verdict.{Verdict}
-use Rattle.launch.specs.declared.Verdict.TheVariants.{Through, No}
+use Rattle.plan.specs.declared.Misfit.{Misfit}
+use Rattle.plan.specs.declared.Misfit.TheVariants.{Clash, Unknown, TooMany}
+use Rattle.launch.specs.declared.Refusal.{Refusal}
 use Rattle.launch.specs.Launch.{Launch, made, launch}
 
 -- the answer of a verdict
-abbrev pub answered : Verdict → Answer
-answered Through = answer_of Ok Done
-answered (No r p) = answer_of Error r
+abbrev pub answered : Result (Unit {0}) Refusal → Answer
+answered (Ok u) = answer_of Value.Ok Done
+answered (Err r) = answer_of Value.Error r.reason
 
 -- and its place
-abbrev pub placed : Verdict → ℕ
-placed Through = 0
-placed (No r p) = p
+abbrev pub placed : Result (Unit {0}) Refusal → ℕ
+placed (Ok u) = 0
+placed (Err r) = r.place
+
+-- the reason against groups that do not fit
+abbrev pub reason_of : Misfit → Reason
+reason_of Clash = GroupsDiffer
+reason_of Unknown = AtomUnknown
+reason_of TooMany = GroupsFull
 
 -- Error for a reason, at a place, and every word as it was
 abbrev pub refusal : Reason → ℕ → List ℕ → Launch
-refusal r p t = record { answer = answer_of Error r; place = p; table = t }
+refusal r p t = record { answer = answer_of Value.Error r; place = p; table = t }
 
 -- the run, the roster and its hidden nodes are in order: an opening goes through
 pub record Open (N hidden : ℕ) (t : List ℕ) : Type 0 where
@@ -45,21 +50,14 @@ pub record InOrder (N hidden start : ℕ) (t : List ℕ) : Type 0 where
   pub known : start < N
 
 -- what a launch gives by the plan of the groups
-abbrev pub by_plan : ℕ → ℕ → List ℕ → List Group → List ℕ → Plan → Launch
-by_plan N hidden book gs t Clash = refusal GroupsDiffer 0 t
-by_plan N hidden book gs t Unknown = refusal AtomUnknown 0 t
-by_plan N hidden book gs t TooMany = refusal GroupsFull 0 t
-by_plan N hidden book gs t (Fits n) = record { answer = answer_of Ok Done; place = 0; table = made N book (kept gs) (opening N hidden t).table }
+abbrev pub by_plan : ℕ → ℕ → List ℕ → List Group → List ℕ → Result ℕ Misfit → Launch
+by_plan N hidden book gs t (Err m) = refusal (reason_of m) 0 t
+by_plan N hidden book gs t (Ok n) = record { answer = answer_of Value.Ok Done; place = 0; table = made N book (kept gs) (opening N hidden t).table }
 
 -- ---- what a function of the launch has to show
 
 abbrev pub Tells : Launch → Answer → ℕ → List ℕ → Type 0
 Tells l a p t = (a ≡ l.answer) × ((p ≡ l.place) × (t ≡ l.table))
-
--- what reading said of a file: its groups stand at a place, or it is refused there
-pub record WasRead (file : List ℕ) (whole : Bool) (place : ℕ) : Type 0 where
-  pub is_file : whole ≡ true → outcome file ≡ taken (groups file place)
-  pub is_none : whole ≡ false → outcome file ≡ refused place
 
 -- the groups of a file begin at a place: it goes on there, and is known to be whole or not
 pub record Begun (file : List ℕ) (whole : Bool) (g : ℕ) : Type 0 where
@@ -68,5 +66,5 @@ pub record Begun (file : List ℕ) (whole : Bool) (g : ℕ) : Type 0 where
 
 -- a launch that was tried in one walk: it went through from every starting node and left the table u, or it left the table as it was
 pub record AtOnce (N hidden : ℕ) (book file t u : List ℕ) (r : Bool) : Type 0 where
-  pub went_through : r ≡ true → (start : ℕ) → start < N → launch N hidden start book file t ≡ record { answer = answer_of Ok Done; place = 0; table = u }
+  pub went_through : r ≡ true → (start : ℕ) → start < N → launch N hidden start book file t ≡ record { answer = answer_of Value.Ok Done; place = 0; table = u }
   pub untouched : r ≡ false → u ≡ t

@@ -3,24 +3,23 @@
 
 ghost use Rattle.std.specs.Prelude.{◌≡◌, true, ℕ, length};
 ghost use Rattle.answers.specs.Answers.{answer_of};
-ghost use Rattle.answers.specs.declared.Value.TheVariants.{Ok, Error};
+ghost use Rattle.answers.specs.declared.Value.TheVariants as Value;
 ghost use Rattle.answers.specs.declared.Reason.TheVariants.{Done};
 ghost use Rattle.launch.specs.Launch.{launch};
-ghost use Rattle.launch.specs.Launches.{answered, placed, Open, InOrder, WasRead, Begun, AtOnce};
+ghost use Rattle.launch.specs.Launches.{answered, placed, reason_of, Open, InOrder, Begun, AtOnce};
 ghost use Rattle.grammar.specs.File.{outcome, taken};
 ghost use Rattle.walk.specs.Groups.{groups, pass_groups};
-ghost use Rattle.walk.specs.declared.Step.TheVariants as Step;
+ghost use Rattle.launch_file.specs.Reading.{read_as};
 ghost use Rattle.pairs.specs.Woven.{woven};
 ghost use Rattle.creating.specs.Creating.{created};
 ghost use Rattle.semantics.specs.Call.{opening};
 
 use answers::{Answer, Reason, Value, done, refused};
-use book::INDEX_SIZE;
-use gathering::Gathered;
-use launch_file::Reading;
+use book::{Book, INDEX_SIZE};
 use layout::{GROUP_LIMIT, NODE_LIMIT, TABLE_WORDS};
-use plan::Plan;
-use walk::Step;
+use pairs::Made;
+use plain_book::PlainBook;
+use plan::Misfit;
 
 // What a launch answers: Ok or Error with its reason, and the place of the file at which it is refused.
 #[derive(Clone, Copy)]
@@ -31,17 +30,17 @@ pub struct Launched {
 
 // A refusal at a place.
 fn refused_at(reason: Reason, place: usize) -> Launched
-    ensures { (result.answer ≡ answer_of Error reason) × (result.place ≡ place) }
+    ensures { (result.answer ≡ answer_of Value.Error reason) × (result.place ≡ place) }
 {
     Launched {
         answer: refused(reason),
-        place: place,
+        place,
     }
 }
 
 // A launch that went through.
 fn through() -> Launched
-    ensures { (result.answer ≡ answer_of Ok Done) × (result.place ≡ 0) }
+    ensures { (result.answer ≡ answer_of Value.Ok Done) × (result.place ≡ 0) }
 {
     Launched {
         answer: done(Value::Ok),
@@ -49,34 +48,45 @@ fn through() -> Launched
     }
 }
 
-// What is found of a file: it is launched, or there is a reason against it, at a place.
+// What speaks against a launch: a reason, at a place.
 #[derive(Clone, Copy)]
-enum Verdict {
-    Through,
-    No(Reason, usize),
+struct Refusal {
+    reason: Reason,
+    place: usize,
 }
 
-// What a launch answers then.
-fn told(verdict: Verdict) -> Launched
+// What a launch answers then, or where nothing does.
+fn told(verdict: Result<(), Refusal>) -> Launched
     ensures { (result.answer ≡ answered verdict) × (result.place ≡ placed verdict) }
 {
     match verdict {
-        Verdict::Through => through(),
-        Verdict::No(reason, place) => refused_at(reason, place),
+        Ok(()) => through(),
+        Err(refusal) => refused_at(refusal.reason, refusal.place),
     }
 }
 
-// The table is opened, and the s_groups of these numbers and sets are made.
-fn make(t: &mut [u64], n: u32, hidden: u64, numbers: &[u16], sets: &[u64])
-    requires fact { Open n hidden t.old }
-    requires numbers_len { length numbers.now ≡ length sets.now }
-    ensures { t.new ≡ created (woven numbers.now sets.now) (opening n hidden t.old).table }
+// What speaks against groups that do not fit.
+fn refusal_of(misfit: Misfit) -> Refusal
+    ensures { (result.reason ≡ reason_of misfit) × (result.place ≡ 0) }
 {
-    opening::open(t, n, hidden);
-    creating::create(t, numbers, sets);
+    let reason = match misfit {
+        Misfit::Clash => Reason::GroupsDiffer,
+        Misfit::Unknown => Reason::AtomUnknown,
+        Misfit::TooMany => Reason::GroupsFull,
+    };
+    Refusal { reason, place: 0 }
 }
 
-// The launch of a file that was read, on a run and a roster that are in order: it is a file whose groups stand at the place, or it is refused there.
+// The table is opened, and these s_groups are made.
+fn make(t: &mut [u64], n: u32, hidden: u64, made: &[Made])
+    requires { Open n hidden t.old }
+    ensures { t.new ≡ created (woven made.now) (opening n hidden t.old).table }
+{
+    opening::open(t, n, hidden);
+    creating::create(t, made);
+}
+
+// The launch of a file that was read, on a run and a roster that are in order: it is a file whose groups stand at a place, or it is refused at one.
 fn judged(
     t: &mut [u64],
     n: u32,
@@ -84,37 +94,44 @@ fn judged(
     start: u32,
     book: &[u8],
     file: &[u8],
-    whole: bool,
-    place: usize,
-) -> Verdict
+    read: Result<usize, usize>,
+) -> Result<(), Refusal>
     requires in_order { InOrder n hidden start t.old }
-    requires was_read { WasRead file.now whole place }
+    requires was_read { outcome file.now ≡ read_as file.now read }
     ensures result_value { answered result ≡ (launch n hidden start book.now file.now t.old).answer }
     ensures result_value_2 { placed result ≡ (launch n hidden start book.now file.now t.old).place }
     ensures t_after { t.new ≡ (launch n hidden start book.now file.now t.old).table }
 {
     if !plain_book::fits(book, n) {
-        return Verdict::No(Reason::NoLaunchFile, 0);
+        return Err(Refusal {
+            reason: Reason::NoLaunchFile,
+            place: 0,
+        });
     }
-    if !whole {
-        return Verdict::No(Reason::NoLaunchFile, place);
-    }
-    let mut numbers = [0u16; GROUP_LIMIT];
-    let mut sets = [0u64; GROUP_LIMIT];
-    match plan::plan_of(file, place, book, n, start, &mut numbers, &mut sets) {
-        Plan::Clash => Verdict::No(Reason::GroupsDiffer, 0),
-        Plan::Unknown => Verdict::No(Reason::AtomUnknown, 0),
-        Plan::TooMany => Verdict::No(Reason::GroupsFull, 0),
-        Plan::Fits(count) => {
-            make(t, n, hidden, &numbers[..count], &sets[..count]);
-            Verdict::Through
+    let g = match read {
+        Ok(g) => g,
+        Err(place) => return Err(Refusal {
+            reason: Reason::NoLaunchFile,
+            place,
+        }),
+    };
+    let lines = PlainBook {
+        text: book,
+        nodes: n,
+    };
+    let mut made = [Made { number: 0, set: 0 }; GROUP_LIMIT];
+    match plan::plan_of(file, g, &lines, start, &mut made) {
+        Ok(count) => {
+            make(t, n, hidden, &made[..count]);
+            Ok(())
         }
+        Err(misfit) => Err(refusal_of(misfit)),
     }
 }
 
 // Whether a file whose groups end in front of a place is whole: it is known to be, or it ends there at once.
 fn ended(file: &[u8], end: usize, whole: bool) -> bool
-    ensures { (g : ℕ) → pass_groups file.now g ≡ Step.Past end → Begun file.now whole g → result ≡ true → outcome file.now ≡ taken (groups file.now g) }
+    ensures { (g : ℕ) → pass_groups file.now g ≡ Ok end → Begun file.now whole g → result ≡ true → outcome file.now ≡ taken (groups file.now g) }
 {
     if whole {
         return true;
@@ -141,18 +158,20 @@ fn at_once(
     if !book::fit(book, n, &mut index) {
         return false;
     }
-    let mut numbers = [0u16; GROUP_LIMIT];
-    let mut sets = [0u64; GROUP_LIMIT];
-    match gathering::gather(file, g, book, n, &index, &mut numbers, &mut sets) {
-        Gathered::Unclear => false,
-        Gathered::Made(count, end) => {
-            if !ended(file, end, whole) {
-                return false;
-            }
-            make(t, n, hidden, &numbers[..count], &sets[..count]);
-            true
-        }
+    let indexed = Book {
+        text: book,
+        nodes: n,
+        index: &index,
+    };
+    let mut made = [Made { number: 0, set: 0 }; GROUP_LIMIT];
+    let Some((count, end)) = gathering::gather(file, g, &indexed, &mut made) else {
+        return false;
+    };
+    if !ended(file, end, whole) {
+        return false;
     }
+    make(t, n, hidden, &made[..count]);
+    true
 }
 
 // Opens the table for n nodes, some of them hidden, and makes the s_groups of the launch file: their atoms and those of their nodes have their numbers by the
@@ -178,19 +197,19 @@ pub fn launch(t: &mut [u64], n: u32, hidden: u64, start: u32, book: &[u8], file:
         return refused_at(Reason::NodeUnknown, 0);
     }
     // The functions that have arrays are called at more than one place, so that the compiler keeps the arrays out of the frame on which reading stands.
-    match reader::front_of(file) {
-        Step::Stop(p) => told(judged(t, n, hidden, start, book, file, false, p)),
-        Step::Past(g) => {
+    match launch_file::front(file) {
+        Err(p) => told(judged(t, n, hidden, start, book, file, Err(p))),
+        Ok(g) => {
             if at_once(t, n, hidden, book, file, g, false) {
                 return through();
             }
-            match reader::rest_of(file, g) {
-                Reading::Refused(p) => told(judged(t, n, hidden, start, book, file, false, p)),
-                Reading::Whole(_) => {
+            match launch_file::rest(file, g) {
+                Err(p) => told(judged(t, n, hidden, start, book, file, Err(p))),
+                Ok(_) => {
                     if at_once(t, n, hidden, book, file, g, true) {
                         return through();
                     }
-                    told(judged(t, n, hidden, start, book, file, true, g))
+                    told(judged(t, n, hidden, start, book, file, Ok(g)))
                 }
             }
         }

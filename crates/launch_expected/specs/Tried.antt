@@ -1,6 +1,6 @@
 -- Laws of `follows`: what the reader says of the text that is tried, and that trying keeps what stands in front of the place. Assumes nothing.
-use Rattle.std.specs.Prelude.{◌≡◌, refl, Bool, true, false, List, [], ◌∷◌, ◌++◌, ℕ, ◌+◌, ◌-◌, ◌≤◌, ◌<◌, length, get_or, take, drop}
-use Rattle.std.proofs.Common.{sym, ap, ◌∙◌, append-nil, le_refl, add-one, arith, le-leb, leb-true, drop-cons}
+use Rattle.std.specs.Prelude.{◌≡◌, refl, Result, Bool, true, false, List, [], ◌∷◌, ◌++◌, ℕ, ◌+◌, ◌≤◌, ◌<◌, length, get_or, take}
+use Rattle.std.proofs.Common.{sym, ◌∙◌, append-nil, le_refl, add-one, arith, le-leb, leb-true}
 use Rattle.std.proofs.lemmas.Bool.{lt-leb}
 use Rattle.std.proofs.Math.Seq.{take-length}
 use Rattle.nodes.specs.Sets.{with_node}
@@ -9,7 +9,6 @@ use Rattle.print.specs.Putting.{put-said}
 use Rattle.grammar.specs.Place.{Shares, refused-place}
 use Rattle.grammar.specs.File.{Group, Outcome, taken, refused, outcome}
 use Rattle.launch_file.specs.Reading.{read_as}
-use Rattle.launch_file.specs.declared.Reading.{Reading}
 use Rattle.launch_expected.specs.Following.{unrefused, begins, follows, following}
 
 -- no text stands in front of a place behind the run
@@ -19,7 +18,7 @@ no_place room p b h = rw (lt-leb p (length room) h)
 
 module _ (room : List ℕ) (p : ℕ) (b : List ℕ) (h : p ≤ length room) (o : List ℕ) (e : ℕ) (s : sheet o e ≡ put (sheet room p) b) where
   -- what the reader says of the text that stands there then
-  pub tried : (x : List ℕ) → x ≡ take e o → (r v : Reading) → outcome x ≡ read_as x r → r ≡ v → unrefused e (read_as x v) ≡ follows room p b
+  pub tried : (x : List ℕ) → x ≡ take e o → (r v : Result ℕ ℕ) → outcome x ≡ read_as x r → r ≡ v → unrefused e (read_as x v) ≡ follows room p b
   unfolding follows begins
   tried x q r v f g =
       let w = put-said room o p e b h s in
@@ -34,17 +33,11 @@ pub same-follows : (l o : List ℕ) (p : ℕ) (b : List ℕ) → length o ≡ le
 unfolding follows
 same-follows l o p b h e = rw (h, e)
 
--- one byte of some
-pub one_byte : (bs : List ℕ) (i : ℕ) → i < length bs → take (i + 1 - i) (drop i bs) ≡ get_or bs i 0 ∷ []
-one_byte bs i h =
-    let k : i + 1 - i ≡ 1 = omega arith in
-    rw (k, drop-cons bs i 0)
-
 -- a turn of the loop over some bytes: whether the next can follow
-module _ (l o : List ℕ) (p : ℕ) (bs : List ℕ) (i : ℕ) (h : i < length bs) (n : length o ≡ length l) (k : take p o ≡ take p l) (t : Bool) (e : t ≡ follows o p (take (i + 1 - i) (drop i bs)))
+module _ (l o : List ℕ) (p : ℕ) (bs : List ℕ) (i : ℕ) (n : length o ≡ length l) (k : take p o ≡ take p l) (t : Bool) (e : t ≡ follows o p (get_or bs i 0 ∷ []))
     (set : ℕ) (s : set ≡ following l p bs i) where
   next-follows : follows l p (get_or bs i 0 ∷ []) ≡ t
-  next-follows = sym (e ∙ same-follows l o p (take (i + 1 - i) (drop i bs)) n k ∙ ap (follows l p) (one_byte bs i h))
+  next-follows = sym (e ∙ same-follows l o p (get_or bs i 0 ∷ []) n k)
 
   pub with_byte : t ≡ true → (u : ℕ) → u ≡ with_node set i → u ≡ following l p bs (i + 1)
   unfolding following

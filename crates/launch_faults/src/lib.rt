@@ -4,5 +4,5 @@
 mod books;
 mod groups;
 
-pub use books::{Fault, book_fault};
+pub use books::{Fault, check_book};
 pub use groups::{Spot, part, torn_group, unlisted};

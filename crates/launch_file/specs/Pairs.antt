@@ -1,28 +1,26 @@
 -- One pair of a list, from behind its bracket and from between the pairs: what is read is what the machine of `grammar` reads. Assumes nothing.
-use Rattle.std.specs.Prelude.{◌≡◌, refl, Bool, true, ◌&&◌, cond, List, [], ℕ, ◌+◌, ◌-◌, ◌≤◌, ◌<◌, drop}
+use Rattle.std.specs.Prelude.{Result, Ok, Err, ◌≡◌, refl, Bool, true, ◌&&◌, cond, List, [], ℕ, ◌+◌, ◌-◌, ◌≤◌, ◌<◌, drop}
 use Rattle.std.proofs.Common.{ap, ◌∙◌, arith}
 use Rattle.std.proofs.Math.Bool.{false}
 use Rattle.tokens.specs.Reserved.{same}
+use Rattle.tokens.specs.declared.Atom.{Atom}
 use Rattle.grammar.specs.File.{Group, Level, file, kernel, Here, comma, open_list, close_tuple, ascii, own_key, key, sign, atom, first_pair, next_pair, value, Move, dead, reads, ended_pairs, ends_pairs, nowhere, enters, keyed, named, step, Outcome, refused}
 use Rattle.grammar.specs.Steps.{from, led}
 use Rattle.values.specs.Skipping.{reached, over, PassedOver}
-use Rattle.values.specs.declared.Skip.{Skip}
 use Rattle.walk.specs.Walk.{part, sign_at, then_sign, atom_at, entry_at}
 use Rattle.walk.specs.Unfold.{StepOn, sign-on, atom-ahead, EntryOn, entry_at-on}
 use Rattle.walk.specs.Atoms.{moved, passed, sign_read, then_sign-read, atom-read}
 use Rattle.walk.specs.Machine.{listed, first_read, next-read}
-use Rattle.walk.specs.declared.Step.{Step}
-use Rattle.walk.specs.declared.Atom.{Atom}
 use Rattle.walk.specs.declared.Entry.{Entry}
 use Rattle.launch_file.specs.Reading.{entry_of, behind_list, paired, PairOn, list_of, IsAnyList, PairRead, own_to, own_pair}
 use Rattle.launch_file.specs.declared.Pair.{Pair}
 
 -- behind a later place, so behind an earlier one
-pair-sooner : (t : List ℕ) (at i : ℕ) (found : Bool) → at ≤ i → (r : Pair) → PairOn t i found r → PairOn t at found r
-pair-sooner t at i found l (Pair.Own n) h = h
-pair-sooner t at i found l (Pair.Other n) h = (omega arith, h.1)
-pair-sooner t at i found l (Pair.Closed n) h = h
-pair-sooner t at i found l (Pair.Stop p) h = tt
+pair-sooner : (t : List ℕ) (at i : ℕ) (found : Bool) → at ≤ i → (r : Result Pair ℕ) → PairOn t i found r → PairOn t at found r
+pair-sooner t at i found l (Ok (Pair.Own n)) h = h
+pair-sooner t at i found l (Ok (Pair.Other n)) h = (omega arith, h.1)
+pair-sooner t at i found l (Ok (Pair.Closed n)) h = h
+pair-sooner t at i found l (Err p) h = tt
 
 -- ---- the own pair
 
@@ -37,12 +35,12 @@ own-goes_on t at e h = go h.found
     inner : Here
     inner = record { level = kernel; found = false; groups = h.groups }
 
-    to-own : (r : Step) → passed inner (entry_of h.level) t r ≡ paired h t (own_to r)
-    to-own (Step.Past n) = refl
-    to-own (Step.Stop p) = refl
+    to-own : (r : Result ℕ ℕ) → passed inner (entry_of h.level) t r ≡ paired h t (own_to r)
+    to-own (Ok n) = refl
+    to-own (Err p) = refl
 
     go : (x : Bool) → led (cond x nowhere (enters h.level h.groups)) e at (drop at t)
-        ≡ paired h t (cond x (Pair.Stop e) (own_to (then_sign t (sign_at t at (ascii comma)) (ascii open_list))))
+        ≡ paired h t (cond x (Err e) (own_to (then_sign t (sign_at t at (ascii comma)) (ascii open_list))))
     go true = refl
     go false =
         entering h.level h.groups e at t
@@ -55,72 +53,74 @@ unfolding own_pair
 own_on t at e true = tt
 own_on t at e false = go (then_sign t (sign_at t at (ascii comma)) (ascii open_list))
   where
-    go : (r : Step) → PairOn t at false (own_to r)
-    go (Step.Past n) = refl
-    go (Step.Stop p) = tt
+    go : (r : Result ℕ ℕ) → PairOn t at false (own_to r)
+    go (Ok n) = refl
+    go (Err p) = tt
 
 -- ---- another pair, behind its key
 
-abbrev pub other_to : Step → Pair
-other_to (Step.Past n) = Pair.Other n
-other_to (Step.Stop p) = Pair.Stop p
+abbrev pub other_to : Result ℕ ℕ → Result Pair ℕ
+other_to (Ok n) = Ok (Pair.Other n)
+other_to (Err p) = Err p
 
-abbrev pub skipped_to : List ℕ → Skip → Pair
-skipped_to t (Skip.Behind e) = other_to (sign_at t e (ascii close_tuple))
-skipped_to t (Skip.Stop p) = Pair.Stop p
+abbrev pub skipped_to : List ℕ → Result ℕ ℕ → Result Pair ℕ
+skipped_to t (Ok e) = other_to (sign_at t e (ascii close_tuple))
+skipped_to t (Err p) = Err p
 
-pub other_cut : (t : List ℕ) (at : ℕ) (found : Bool) (p : ℕ) → sign_at t at (ascii comma) ≡ Step.Stop p → PairRead IsAnyList (sign comma value) t at found (Pair.Stop p)
+pub other_cut : (t : List ℕ) (at : ℕ) (found : Bool) (p : ℕ) → sign_at t at (ascii comma) ≡ Err p → PairRead IsAnyList (sign comma value) t at found (Err p)
 other_cut t at found p e = record { goes_on = λ h s. sign_read t at comma h value ∙ rw e; on = tt }
 
-pub other-read : (t : List ℕ) (at n : ℕ) (found : Bool) → sign_at t at (ascii comma) ≡ Step.Past n → (k : Skip) → PassedOver t n k → PairRead IsAnyList (sign comma value) t at found (skipped_to t k)
+pub other-read : (t : List ℕ) (at n : ℕ) (found : Bool) → sign_at t at (ascii comma) ≡ Ok n → (k : Result ℕ ℕ) → PassedOver t n k → PairRead IsAnyList (sign comma value) t at found (skipped_to t k)
 other-read t at n found e k P = record { goes_on = λ h s. sign_read t at comma h value ∙ rw e (P.goes_on h ∙ behind h k); on = ahead k P.ahead }
   where
-    ended : (h : Here) (r : Step) → passed h next_pair t r ≡ paired h t (other_to r)
-    ended h (Step.Past m) = refl
-    ended h (Step.Stop p) = refl
+    ended : (h : Here) (r : Result ℕ ℕ) → passed h next_pair t r ≡ paired h t (other_to r)
+    ended h (Ok m) = refl
+    ended h (Err p) = refl
 
-    behind : (h : Here) (k : Skip) → over h t k ≡ paired h t (skipped_to t k)
-    behind h (Skip.Behind i) = sign_read t i close_tuple h next_pair ∙ ended h (sign_at t i (ascii close_tuple))
-    behind h (Skip.Stop p) = refl
+    behind : (h : Here) (k : Result ℕ ℕ) → over h t k ≡ paired h t (skipped_to t k)
+    behind h (Ok i) = sign_read t i close_tuple h next_pair ∙ ended h (sign_at t i (ascii close_tuple))
+    behind h (Err p) = refl
 
-    begins : StepOn t at (Step.Past n)
+    begins : StepOn t at (Ok n)
     begins = rw e at (sign-on t at (ascii comma))
 
-    closes : (i : ℕ) → n ≤ i → (r : Step) → StepOn t i r → PairOn t at found (other_to r)
-    closes i l (Step.Past m) a = let b = begins.0 in (omega arith, a.1)
-    closes i l (Step.Stop p) a = tt
+    closes : (i : ℕ) → n ≤ i → (r : Result ℕ ℕ) → StepOn t i r → PairOn t at found (other_to r)
+    closes i l (Ok m) a = let b = begins.0 in (omega arith, a.1)
+    closes i l (Err p) a = tt
 
-    ahead : (k : Skip) → n ≤ reached k → PairOn t at found (skipped_to t k)
-    ahead (Skip.Behind i) l = closes i l (sign_at t i (ascii close_tuple)) (sign-on t i (ascii close_tuple))
-    ahead (Skip.Stop p) l = tt
+    ahead : (k : Result ℕ ℕ) → n ≤ reached k → PairOn t at found (skipped_to t k)
+    ahead (Ok i) l = closes i l (sign_at t i (ascii close_tuple)) (sign-on t i (ascii close_tuple))
+    ahead (Err p) l = tt
 
-pub other-ends : (t : List ℕ) (at n i : ℕ) (found : Bool) → sign_at t at (ascii comma) ≡ Step.Past n → PassedOver t n (Skip.Behind i) → (r : Step) → sign_at t i (ascii close_tuple) ≡ r
+pub other-ends : (t : List ℕ) (at n i : ℕ) (found : Bool) → sign_at t at (ascii comma) ≡ Ok n → PassedOver t n (Ok i) → (r : Result ℕ ℕ) → sign_at t i (ascii close_tuple) ≡ r
     → PairRead IsAnyList (sign comma value) t at found (other_to r)
-other-ends t at n i found e P r q = rw q at (other-read t at n found e (Skip.Behind i) P)
+other-ends t at n i found e P r q = rw q at (other-read t at n found e (Ok i) P)
 
 -- ---- a pair, behind its bracket
 
 module _ (t : List ℕ) (at : ℕ) (own : List ℕ) (found : Bool) where
-  pub pair-stops : (p : ℕ) → atom_at t at ≡ Atom.Stop p → PairRead (list_of own found) (atom key) t at found (Pair.Stop p)
+  pub pair-stops : (p : ℕ) → atom_at t at ≡ Err p → PairRead (list_of own found) (atom key) t at found (Err p)
   pair-stops p e = record { goes_on = λ h s. atom-read t at h key ∙ rw e; on = tt }
 
-  module _ (s e n : ℕ) (is : atom_at t at ≡ Atom.Is s e n) where
-    further : at ≤ n
-    further = omega (arith, (atom-ahead t at s e n is).0)
+  module _ (a : Atom) (is : atom_at t at ≡ Ok a) where
+    further : at ≤ a.past
+    further = omega (arith, (atom-ahead t at a is).0)
 
-    keyed-read : (h : Here) (x : Bool) → same (part t s e) own ≡ x → own ≡ own_key h.level → from h [] (atom key) t at ≡ led (keyed h x) e n (drop n t)
+    keyed-read : (h : Here) (x : Bool) → same (part t a.from a.to) own ≡ x → own ≡ own_key h.level
+        → from h [] (atom key) t at ≡ led (keyed h x) a.to a.past (drop a.past t)
     unfolding named
     keyed-read h x q o = atom-read t at h key ∙ rw (is, ← o, q)
 
-    pub pair-own : same (part t s e) own ≡ true → PairRead (list_of own found) (atom key) t at found (own_pair t n e found)
+    pub pair-own : same (part t a.from a.to) own ≡ true → PairRead (list_of own found) (atom key) t at found (own_pair t a.past a.to found)
     pair-own q = record {
-      goes_on = λ h s. keyed-read h true q s.0 ∙ rw s.1 (own-goes_on t n e h);
-      on = pair-sooner t at n found further (own_pair t n e found) (own_on t n e found);
+      goes_on = λ h s. keyed-read h true q s.0 ∙ rw s.1 (own-goes_on t a.past a.to h);
+      on = pair-sooner t at a.past found further (own_pair t a.past a.to found) (own_on t a.past a.to found);
     }
 
-    pub pair-other : same (part t s e) own ≡ false → (r : Pair) → PairRead IsAnyList (sign comma value) t n found r → PairRead (list_of own found) (atom key) t at found r
+    pub pair-other : same (part t a.from a.to) own ≡ false → (r : Result Pair ℕ) → PairRead IsAnyList (sign comma value) t a.past found r
+        → PairRead (list_of own found) (atom key) t at found r
     unfolding keyed
-    pair-other q r P = record { goes_on = λ h s. keyed-read h false q s.0 ∙ P.goes_on h tt; on = pair-sooner t at n found further r P.on }
+    pair-other q r P = record { goes_on = λ h s. keyed-read h false q s.0 ∙ P.goes_on h tt; on = pair-sooner t at a.past found further r P.on }
 
 -- ---- between the pairs
 
@@ -151,27 +151,27 @@ pairs-read t at h true = next-read t h key (pairs_end h) (closing h t) (ends t h
 pairs-read t at h false = first_read t h key (pairs_end h) (closing h t) (ends t h) first_pair (λ b. rw both) at
 
 module _ (t : List ℕ) (at : ℕ) (begun : Bool) (own : List ℕ) (found : Bool) where
-  module _ (x : Entry) (is : entry_at t at begun ≡ x) where
+  module _ (x : Result Entry ℕ) (is : entry_at t at begun ≡ x) where
     there : (h : Here) → from h [] (cond begun next_pair first_pair) t at ≡ listed h key (closing h t) t x
     there h = pairs-read t at h begun ∙ ap (listed h key (closing h t) t) is
 
     further-on : EntryOn t at x
     further-on = rw is at (entry_at-on t at begun)
 
-  pub next-stops : (p : ℕ) → entry_at t at begun ≡ Entry.Stop p → PairRead (list_of own found) (cond begun next_pair first_pair) t at found (Pair.Stop p)
-  next-stops p e = record { goes_on = λ h s. there (Entry.Stop p) e h; on = tt }
+  pub next-stops : (p : ℕ) → entry_at t at begun ≡ Err p → PairRead (list_of own found) (cond begun next_pair first_pair) t at found (Err p)
+  next-stops p e = record { goes_on = λ h s. there (Err p) e h; on = tt }
 
-  pub next-pairs : (n : ℕ) → entry_at t at begun ≡ Entry.Group n → (r : Pair) → PairRead (list_of own found) (atom key) t n found r
+  pub next-pairs : (n : ℕ) → entry_at t at begun ≡ Ok (Entry.Group n) → (r : Result Pair ℕ) → PairRead (list_of own found) (atom key) t n found r
       → PairRead (list_of own found) (cond begun next_pair first_pair) t at found r
   next-pairs n e r P =
-      let a = further-on (Entry.Group n) e in
-      record { goes_on = λ h s. there (Entry.Group n) e h ∙ P.goes_on h s; on = pair-sooner t at n found (omega arith) r P.on }
+      let a = further-on (Ok (Entry.Group n)) e in
+      record { goes_on = λ h s. there (Ok (Entry.Group n)) e h ∙ P.goes_on h s; on = pair-sooner t at n found (omega arith) r P.on }
 
-  pub next-closed : (n : ℕ) → entry_at t at begun ≡ Entry.Closed n → found ≡ true → PairRead (list_of own found) (cond begun next_pair first_pair) t at found (Pair.Closed n)
-  next-closed n e f = record { goes_on = λ h s. there (Entry.Closed n) e h ∙ rw (← s.1, f); on = f }
+  pub next-closed : (n : ℕ) → entry_at t at begun ≡ Ok (Entry.Closed n) → found ≡ true → PairRead (list_of own found) (cond begun next_pair first_pair) t at found (Ok (Pair.Closed n))
+  next-closed n e f = record { goes_on = λ h s. there (Ok (Entry.Closed n)) e h ∙ rw (← s.1, f); on = f }
 
-  pub next-missing : (n : ℕ) → entry_at t at begun ≡ Entry.Closed n → found ≡ false → PairRead (list_of own found) (cond begun next_pair first_pair) t at found (Pair.Stop (n - 1))
-  next-missing n e f = record { goes_on = λ h s. there (Entry.Closed n) e h ∙ rw (← s.1, f); on = tt }
+  pub next-missing : (n : ℕ) → entry_at t at begun ≡ Ok (Entry.Closed n) → found ≡ false → PairRead (list_of own found) (cond begun next_pair first_pair) t at found (Err (n - 1))
+  next-missing n e f = record { goes_on = λ h s. there (Ok (Entry.Closed n)) e h ∙ rw (← s.1, f); on = tt }
 
-  pub closed-within : (n : ℕ) → entry_at t at begun ≡ Entry.Closed n → at < n
-  closed-within n e = (further-on (Entry.Closed n) e).0
+  pub closed-within : (n : ℕ) → entry_at t at begun ≡ Ok (Entry.Closed n) → at < n
+  closed-within n e = (further-on (Ok (Entry.Closed n)) e).0

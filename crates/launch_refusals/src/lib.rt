@@ -1,20 +1,13 @@
 // What is said of a launch that is refused: the reason, the place, and a sentence.
 #![tactic(auto)]
 
-ghost use Rattle.std.specs.Prelude.{◌≡◌, min, length, take};
+ghost use Rattle.std.specs.Prelude.{◌≡◌, length, take};
 ghost use Rattle.refusal_head.specs.Refusal.{refusal_head};
 
 use answers::Reason;
 use launch_expected::front;
 use launch_why::{Asked, put_why};
-use refusal_head::{is_slip, put_head};
-
-// The lesser of two numbers.
-fn least(a: usize, b: usize) -> usize
-    ensures { result ≡ min a b }
-{
-    if a < b { a } else { b }
-}
+use refusal_head::{Named, is_slip, put_head};
 
 // Puts what is said of a launch that is refused: what is determined by its answer, and then why. The file stands in the first bytes of the room, so many; those
 // from the place on are lost.
@@ -33,18 +26,25 @@ pub fn put_refusal(
         ≡ take (length out.old) (refusal_head reason place asked.n book.now name.now (take len room.old)) }
 {
     let slip = is_slip(reason, place, book, asked.n);
-    let p = put_head(out, reason, place, slip, name, front(room, len));
+    let file = Named {
+        name,
+        text: front(room, len),
+    };
+    let p = put_head(out, reason, place, slip, file);
+    let book = Named {
+        name: book_name,
+        text: book,
+    };
     let why = put_why(
         &mut out[p..],
         reason,
         place,
         slip,
         asked,
-        book_name,
         book,
         name,
         room,
         len,
     );
-    p + least(why, out.len() - p)
+    p + why.min(out.len() - p)
 }

@@ -1,23 +1,23 @@
 -- Laws of `launched_lines`: a turn and the end of each loop, and the s_groups as the words of a table have them. Assumes nothing.
-use Rattle.std.specs.Prelude.{◌≡◌, refl, true, false, List, [], ◌∷◌, ◌++◌, map, ℕ, zero, suc, ◌+◌, ◌-◌, ◌%◌, ◌≤◌, ◌<◌, length, take, drop}
-use Rattle.std.proofs.Common.{◌∙◌, append-nil, add-one, drop_of_length-le, get_or-drop, eq-eqb, ne_eqb}
+use Rattle.std.specs.Prelude.{◌≡◌, refl, true, false, List, [], ◌∷◌, ◌++◌, map, ℕ, zero, suc, ◌+◌, ◌-◌, ◌%◌, ◌≤◌, ◌<◌, min, length, take, drop}
+use Rattle.std.proofs.Common.{sym, ◌∙◌, append-nil, add-one, drop_of_length-le, get_or-drop, eq-eqb, ne_eqb}
 use native.Mathlib.Omega.{arith}
 use Rattle.std.proofs.Math.ListN.{get_or}
-use Rattle.std.proofs.Math.Seq.{drop-cons, take-length}
+use Rattle.std.proofs.Math.Seq.{drop-cons, drop-nil, take-length}
 use Rattle.nodes.specs.NodeSets.{node_limit, has}
 use Rattle.nodes.specs.Sets.{union_all, some_has}
 use Rattle.nodes.proofs.SetLaws.{has_union_all}
 use Rattle.text.specs.Text.{bytes}
-use Rattle.semantics.specs.Sizes.{group_limit, group_names, names_per_group, contents_at, members_at, bodies_at, table_words}
+use Rattle.semantics.specs.Sizes.{group_names, names_per_group, contents_at, members_at, bodies_at, table_words}
+use Rattle.semantics.specs.Soundness.{count_of}
 use Rattle.semantics.specs.State.{Group}
 use Rattle.semantics.specs.Table.{groups_of, state_of}
 use Rattle.semantics.specs.Test.{sound}
-use Rattle.semantics.specs.WordsOfState.{count-is, length-of}
-use Rattle.semantics.proofs.Agree.{test-regular, test-laid}
+use Rattle.semantics.specs.WordsOfState.{length-of}
+use Rattle.semantics.proofs.Agree.{test-laid}
+use Rattle.sound_table.specs.Here.{one-each}
 use Rattle.book.specs.Book.{lines}
 use Rattle.print.specs.Printed.{decimal}
-use Rattle.print.specs.Sheets.{Sheet, put}
-use Rattle.print.specs.Putting.{put-append}
 use Rattle.launch_report.specs.Launched.{quoted, named, member, members_from, group_line, group_lines, own_part, own_each, own_lines, groups_in}
 
 -- the s_groups of contents words and members, without their names
@@ -26,38 +26,56 @@ bare cs ms = groups_of 0 cs ms []
 
 -- ---- the loop over the nodes
 
-pub members-turn : (p q : Sheet) (book : List ℕ) (set i : ℕ) → i < node_limit → q ≡ put p (member book set i)
-    → put p (members_from (node_limit - i) i book set) ≡ put q (members_from (node_limit - (i + 1)) (i + 1) book set)
+pub members_turn : (book : List ℕ) (set i : ℕ) → i < node_limit → members_from (node_limit - i) i book set ≡ member book set i ++ members_from (node_limit - (i + 1)) (i + 1) book set
 unfolding members_from
-members-turn p q book set i h e =
+members_turn book set i h =
     let k : node_limit - i ≡ suc (node_limit - suc i) = omega arith in
-    rw (add-one, k, e, put-append)
+    rw (add-one, k)
 
-pub members-end : (p : Sheet) (book : List ℕ) (set i : ℕ) → node_limit ≤ i → put p (members_from (node_limit - i) i book set) ≡ p
-unfolding members_from put
-members-end p book set i h = let k : node_limit - i ≡ zero = omega arith in rw k
+pub members_end : (book : List ℕ) (set i : ℕ) → node_limit ≤ i → members_from (node_limit - i) i book set ≡ []
+unfolding members_from
+members_end book set i h = let k : node_limit - i ≡ zero = omega arith in rw k
 
 -- ---- the loops over the s_groups
 
-module _ (p q : Sheet) (book : List ℕ) (n : ℕ) (cs ms : List ℕ) (i : ℕ) (h : i < length cs) (k : i < length ms) where
-  pub groups-turn : q ≡ put p (group_line book n (get_or cs i 0 % group_names) (get_or ms i 0))
-      → put p (group_lines book n (bare (drop i cs) (drop i ms))) ≡ put q (group_lines book n (bare (drop (i + 1) cs) (drop (i + 1) ms)))
+module _ (book : List ℕ) (n : ℕ) (cs ms : List ℕ) (i : ℕ) (h : i < length cs) (k : i < length ms) (c m : ℕ) (e : c ≡ get_or cs i 0) (f : m ≡ get_or ms i 0) where
+  pub groups_turn : group_lines book n (bare (drop i cs) (drop i ms)) ≡ group_line book n (c % group_names) m ++ group_lines book n (bare (drop (i + 1) cs) (drop (i + 1) ms))
   unfolding group_lines
-  groups-turn e = rw (add-one, drop-cons cs i 0, drop-cons ms i 0, e, put-append)
+  groups_turn = rw (e, f, add-one, drop-cons cs i 0, drop-cons ms i 0)
 
-  pub own_turn : (j : ℕ) → q ≡ put p (own_part book n j (get_or cs i 0 % group_names) (get_or ms i 0))
-      → put p (own_each book n j (bare (drop i cs) (drop i ms))) ≡ put q (own_each book n j (bare (drop (i + 1) cs) (drop (i + 1) ms)))
+  pub own_turn : (j : ℕ) → own_each book n j (bare (drop i cs) (drop i ms)) ≡ own_part book n j (c % group_names) m ++ own_each book n j (bare (drop (i + 1) cs) (drop (i + 1) ms))
   unfolding own_each
-  own_turn j e = rw (add-one, drop-cons cs i 0, drop-cons ms i 0, e, put-append)
+  own_turn j = rw (e, f, add-one, drop-cons cs i 0, drop-cons ms i 0)
 
-module _ (p : Sheet) (book : List ℕ) (n : ℕ) (cs ms : List ℕ) (i : ℕ) (h : length cs ≤ i) where
-  pub groups-end : put p (group_lines book n (bare (drop i cs) ms)) ≡ p
-  unfolding group_lines put
-  groups-end = rw (drop_of_length-le cs h)
+-- no contents word is left
+module _ (book : List ℕ) (n : ℕ) (cs ms : List ℕ) (i : ℕ) (h : length cs ≤ i) where
+  pub groups_end : group_lines book n (bare (drop i cs) ms) ≡ []
+  unfolding group_lines
+  groups_end = rw (drop_of_length-le cs h)
 
-  pub own-end : (j : ℕ) → put p (own_each book n j (bare (drop i cs) ms)) ≡ p
-  unfolding own_each put
-  own-end j = rw (drop_of_length-le cs h)
+  pub own_end : (j : ℕ) → own_each book n j (bare (drop i cs) ms) ≡ []
+  unfolding own_each
+  own_end j = rw (drop_of_length-le cs h)
+
+no_members : (cs : List ℕ) → bare cs [] ≡ []
+no_members [] = refl
+no_members (c ∷ cs) = refl
+
+-- no s_group is left, as one of the two lists ends
+bare_none : (cs ms : List ℕ) (i : ℕ) → min (length cs) (length ms) ≤ i → bare (drop i cs) (drop i ms) ≡ []
+bare_none [] ms i h = simp drop-nil
+bare_none (c ∷ cs) [] i h = simp drop-nil (no_members (drop i (c ∷ cs)))
+bare_none (c ∷ cs) (m ∷ ms) zero h = absurd (omega arith)
+bare_none (c ∷ cs) (m ∷ ms) (suc i) h = bare_none cs ms i (omega arith)
+
+module _ (book : List ℕ) (n : ℕ) (cs ms : List ℕ) (i : ℕ) (h : min (length cs) (length ms) ≤ i) where
+  pub groups_over : group_lines book n (bare (drop i cs) (drop i ms)) ≡ []
+  unfolding group_lines
+  groups_over = rw (bare_none cs ms i h)
+
+  pub own_over : (j : ℕ) → own_each book n j (bare (drop i cs) (drop i ms)) ≡ []
+  unfolding own_each
+  own_over j = rw (bare_none cs ms i h)
 
 -- ---- the words of a table
 
@@ -90,12 +108,14 @@ same-own : (book : List ℕ) (n j cap : ℕ) (cs ms b : List ℕ) → own_lines 
 unfolding own_lines
 same-own book n j cap cs ms b = rw (same-each book n j cap cs ms b, same-members cap cs ms b)
 
-module _ (t : List ℕ) (ok : sound names_per_group t ≡ true) where
-  pub groups_few : get_or t 2 0 ≤ group_limit
-  groups_few = omega (arith, count-is (test-laid names_per_group t ok), (test-regular names_per_group t ok).0.groups_few)
+-- a sound table has the length of one
+pub table-long : (t : List ℕ) → sound names_per_group t ≡ true → length t ≡ table_words names_per_group
+table-long t ok = length-of (test-laid names_per_group t ok)
 
-  pub table-long : length t ≡ table_words names_per_group
-  table-long = length-of (test-laid names_per_group t ok)
+-- and as many contents words as members
+pub as_many : (t : List ℕ) → length t ≡ table_words names_per_group → sound names_per_group t ≡ true
+    → length (take (count_of t) (drop contents_at t)) ≡ length (take (count_of t) (drop members_at t))
+as_many t long ok = one-each t ok long contents_at (omega arith) _ refl ∙ sym (one-each t ok long members_at (omega arith) _ refl)
 
 -- the s_groups of a table, and those of a node
 abbrev pub groups_lines : List ℕ → ℕ → ℕ → List ℕ → List ℕ
@@ -104,21 +124,16 @@ groups_lines book n j t = group_lines book n (groups_in t) ++ own_lines book n j
 module _ (book : List ℕ) (n j : ℕ) (t : List ℕ) where
   -- those of a sound table are those of its contents words and members
   pub sound-lines : sound names_per_group t ≡ true
-      → (cs ms : List ℕ) → cs ≡ take (contents_at + get_or t 2 0 - contents_at) (drop contents_at t)
-      → ms ≡ take (members_at + get_or t 2 0 - members_at) (drop members_at t)
+      → (cs ms : List ℕ) → cs ≡ take (count_of t) (drop contents_at t) → ms ≡ take (count_of t) (drop members_at t)
       → group_lines book n (bare cs ms) ++ own_lines book n j (bare cs ms) ≡ groups_lines book n j t
   unfolding groups_in state_of
   sound-lines ok cs ms e f =
-      let a : contents_at + get_or t 2 0 - contents_at ≡ get_or t 2 0 = omega arith in
-      let b : members_at + get_or t 2 0 - members_at ≡ get_or t 2 0 = omega arith in
       rw (
         ok,
         e,
         f,
-        a,
-        b,
-        ← (same_lines book n names_per_group (take (get_or t 2 0) (drop contents_at t)) (take (get_or t 2 0) (drop members_at t)) (drop bodies_at t)),
-        ← (same-own book n j names_per_group (take (get_or t 2 0) (drop contents_at t)) (take (get_or t 2 0) (drop members_at t)) (drop bodies_at t)),
+        ← (same_lines book n names_per_group (take (count_of t) (drop contents_at t)) (take (count_of t) (drop members_at t)) (drop bodies_at t)),
+        ← (same-own book n j names_per_group (take (count_of t) (drop contents_at t)) (take (count_of t) (drop members_at t)) (drop bodies_at t)),
       )
 
   -- what is no sound table has none

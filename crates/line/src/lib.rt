@@ -3,11 +3,10 @@
 
 ghost use Rattle.std.specs.Prelude.{◌≡◌, length};
 ghost use Rattle.text.specs.Text.{fields};
-ghost use Rattle.line.specs.Requests.{number_in, open_with, open_line, formed_line, command_with, command_by, numbered_line, command_line, request_of};
+ghost use Rattle.forms.specs.Forms.{takes_set};
+ghost use Rattle.line.specs.Requests.{number_in, open_line, command_by, numbered_line, command_line, request_of};
 
 use commands::Command;
-use forms::Formed;
-use text::{Half, Number};
 
 // What a script line asks for.
 #[derive(Clone, Copy)]
@@ -16,140 +15,104 @@ pub enum Request {
     Open(u32, u64),
     // a command of a caller
     Command { caller: u32, command: Command },
-    // any other line
-    BadLine,
 }
 
 // A line holds at most this many bytes before its newline.
 const LINE_LIMIT: usize = 120;
 
-// The number in field i of a line of so many fields, which is 0 where there are fewer.
-fn number_in(s: &[u8], count: usize, i: usize) -> Number
-    requires { count ≡ length (fields s.now) }
-    ensures { result ≡ number_in i (fields s.now) }
-{
-    if count <= i {
-        return Number::Is(0);
+// The bytes of a line without its newline, and how many fields they have.
+#[derive(Clone, Copy)]
+struct Line<'a> {
+    bytes: &'a [u8],
+    count: usize,
+    ghost counted: { count ≡ length (fields bytes.now) },
+}
+
+impl Line<'_> {
+    // The number in a field, which is 0 where there are fewer.
+    #[tactic(auto, unfolding(crate::specs::Requests::number_in))]
+    fn number_in(&self, i: usize) -> Option<u64>
+        ensures { result ≡ number_in i (fields self.now.bytes.now) }
+    {
+        if self.count <= i {
+            return Some(0);
+        }
+        text::numeral(text::field(self.bytes, i))
     }
-    text::numeral(text::field(s, i))
-}
 
-// Opening, where both are numbers of their widths.
-fn open_with(n: Half, hidden: Number) -> Request
-    ensures { result ≡ open_with n hidden }
-{
-    let Half::Is(size) = n else {
-        return Request::BadLine;
-    };
-    let Number::Is(set) = hidden else {
-        return Request::BadLine;
-    };
-    Request::Open(size, set)
-}
-
-// The line `open N HIDDEN`.
-fn open_line(s: &[u8], count: usize) -> Request
-    requires { count ≡ length (fields s.now) }
-    ensures { result ≡ open_line (fields s.now) }
-{
-    if count != 3 {
-        return Request::BadLine;
+    // The line `open N HIDDEN`.
+    #[tactic(auto, unfolding(crate::specs::Requests::open_line))]
+    fn opened(&self) -> Option<Request>
+        ensures { result ≡ open_line (fields self.now.bytes.now) }
+    {
+        if self.count != 3 {
+            return None;
+        }
+        let size = text::narrow(text::numeral(text::field(self.bytes, 1)))?;
+        let hidden = text::numeral(text::field(self.bytes, 2))?;
+        Some(Request::Open(size, hidden))
     }
-    let n = text::narrow(text::numeral(text::field(s, 1)));
-    let hidden = text::numeral(text::field(s, 2));
-    open_with(n, hidden)
-}
 
-// A command of a caller, where the form is one.
-fn formed_line(caller: u32, formed: Formed) -> Request
-    ensures { result ≡ formed_line caller formed }
-{
-    match formed {
-        Formed::Is(command) => Request::Command {
-            caller: caller,
-            command: command,
-        },
-        Formed::Nothing => Request::BadLine,
+    // The command of a number on the line.
+    #[tactic(auto, unfolding(crate::specs::Requests::numbered_line))]
+    fn numbered(&self, number: u32) -> Option<Request>
+        ensures { result ≡ numbered_line number (fields self.now.bytes.now) }
+    {
+        command_by(
+            number,
+            self.number_in(0),
+            self.number_in(2),
+            self.number_in(3),
+            self.number_in(4),
+        )
+    }
+
+    // The line of a caller, a command and its arguments.
+    #[tactic(auto, unfolding(crate::specs::Requests::command_line))]
+    fn commanded(&self) -> Option<Request>
+        ensures { result ≡ command_line (fields self.now.bytes.now) }
+    {
+        let arguments = self.count.checked_sub(2)?;
+        let number = forms::number(text::field(self.bytes, 1), arguments);
+        self.numbered(number)
     }
 }
 
-// The command of a number, where its caller and its arguments are numbers of their widths.
-fn command_with(number: u32, caller: Half, a: Half, b: Half, c: Half, set: Number) -> Request
-    ensures { result ≡ command_with number caller a b c set }
-{
-    let Half::Is(i) = caller else {
-        return Request::BadLine;
-    };
-    let Half::Is(x) = a else {
-        return Request::BadLine;
-    };
-    let Half::Is(y) = b else {
-        return Request::BadLine;
-    };
-    let Half::Is(z) = c else {
-        return Request::BadLine;
-    };
-    let Number::Is(m) = set else {
-        return Request::BadLine;
-    };
-    formed_line(i, forms::command_of(number, x, y, z, m))
-}
-
-// The command of a number with its caller and three arguments as they stand, and whether the second is a set of nodes.
+// The command of a number with its caller and three arguments as they stand, of which the second may be a set of nodes.
+#[tactic(auto, unfolding(crate::specs::Requests::command_by))]
 fn command_by(
-    takes_set: bool,
     number: u32,
-    caller: Number,
-    a: Number,
-    b: Number,
-    c: Number,
-) -> Request
-    ensures { result ≡ command_by takes_set number caller a b c }
+    caller: Option<u64>,
+    a: Option<u64>,
+    b: Option<u64>,
+    c: Option<u64>,
+) -> Option<Request>
+    ensures { result ≡ command_by (takes_set number) number caller a b c }
 {
-    let i = text::narrow(caller);
-    let x = text::narrow(a);
-    let z = text::narrow(c);
-    if takes_set {
-        return command_with(number, i, x, Half::Is(0), z, b);
-    }
-    let y = text::narrow(b);
-    command_with(number, i, x, y, z, Number::Is(0))
-}
-
-// The command of a number on a line.
-fn numbered_line(number: u32, s: &[u8], count: usize) -> Request
-    requires { count ≡ length (fields s.now) }
-    ensures { result ≡ numbered_line number (fields s.now) }
-{
-    let caller = number_in(s, count, 0);
-    let a = number_in(s, count, 2);
-    let b = number_in(s, count, 3);
-    let c = number_in(s, count, 4);
-    command_by(forms::takes_set(number), number, caller, a, b, c)
-}
-
-// The line of a caller, a command and its arguments.
-fn command_line(s: &[u8], count: usize) -> Request
-    requires { count ≡ length (fields s.now) }
-    ensures { result ≡ command_line (fields s.now) }
-{
-    if count < 2 {
-        return Request::BadLine;
-    }
-    let number = forms::number(text::field(s, 1), count - 2);
-    numbered_line(number, s, count)
+    let (second, set) = if forms::takes_set(number) {
+        (0, b?)
+    } else {
+        (text::narrow(b)?, 0)
+    };
+    let caller = text::narrow(caller)?;
+    let command = forms::command_of(number, text::narrow(a)?, second, text::narrow(c)?, set)?;
+    Some(Request::Command { caller, command })
 }
 
 // The request that a line is: its bytes without the newline.
-pub fn request_of(s: &[u8]) -> Request
+#[tactic(auto, unfolding(crate::specs::Requests::request_of, crate::specs::Requests::request_in))]
+pub fn request_of(s: &[u8]) -> Option<Request>
     ensures { result ≡ request_of s.now }
 {
     if LINE_LIMIT < s.len() {
-        return Request::BadLine;
+        return None;
     }
-    let count = text::count(s);
-    if check::same(text::field(s, 0), b"open") {
-        return open_line(s, count);
+    let line = Line {
+        bytes: s,
+        count: text::count(s),
+    };
+    if text::field(s, 0) == b"open".as_slice() {
+        return line.opened();
     }
-    command_line(s, count)
+    line.commanded()
 }

@@ -275,10 +275,6 @@ module _ (a : ℕ) (some : 0 < a) where
         let q : k / a < unit_pairs / a = (div-lt_iff_lt-mul some).1 (omega (arith, blocks)) in
         omega (arith, row-digits k 1, digits_lt {q = k / a * 2 + 1} {m = unit_pairs / a * 2} {r = k % a} {c = a} (omega arith) (mod-lt k some), blocks)
 
-    -- rows of a pair are fewer than a unit apart
-    pub apart-lt : a < unit_rows
-    apart-lt = omega (arith, row_lt 0 (omega arith))
-
     row-high : (r : ℕ) → r < unit_rows → r / a < unit_pairs / a * 2
     row-high r l = (div-lt_iff_lt-mul some).1 (omega (arith, blocks))
 

@@ -1,7 +1,7 @@
 -- The 64 x 64 digits of 64 words turned about their diagonal: 8 rows at a time by three rounds, each 8 columns by themselves, and then one row of each unit at a
 -- time by the same rounds on 8 columns at a time. Assumes nothing.
-use Rattle.std.specs.Prelude.{◌≡◌, refl, ◌⊎◌, Bool, true, ◌&&◌, List, ℕ, ◌+◌, ◌*◌, ◌/◌, ◌%◌, ◌^◌, ◌≤◌, ◌<◌, eqb, leb, length, set}
-use Rattle.std.proofs.Common.{sym, ap, ap₂, ◌∙◌, inl, inr, ⊎_elim, arith, length-set, get_or-set_same, get_or-set_other}
+use Rattle.std.specs.Prelude.{◌≡◌, refl, ◌⊎◌, Bool, true, ◌&&◌, List, ℕ, ◌+◌, ◌*◌, ◌/◌, ◌%◌, ◌^◌, ◌≤◌, ◌<◌, eqb, leb, length}
+use Rattle.std.proofs.Common.{sym, ap, ap₂, ◌∙◌, inl, ⊎_elim, arith}
 use Rattle.nodes.specs.Sets.{node_limit, has, word_at}
 use Rattle.nodes.specs.Bools.{by_lt, test-ext}
 use Rattle.nodes.proofs.SetLaws.{has_above, has-ext}
@@ -37,27 +37,6 @@ TurnedBelow n links turned = (u : ℕ) → u < n → TurnedAt (unit_rows * u) li
 -- the connections of the nodes k, 8 + k, 16 + k and so on are mutual
 abbrev pub units_mutual : List ℕ → ℕ → Bool
 units_mutual links k = all_below units (λ u. all_below node_limit (both_ways links (unit_rows * u + k)))
-
--- ---- words copied one by one
-
-pub none-copied : (start : ℕ) (f : ℕ → ℕ) (ws : List ℕ) → Copied start 0 f ws ws
-none-copied start f ws = record { long = refl; here = λ i l. absurd (omega arith); rest = λ i o. refl }
-
-pub one-copied : (start k n : ℕ) (f : ℕ → ℕ) (before after : List ℕ) → n ≡ start + k → n < length after → Copied start k f before after
-    → Copied start (k + 1) f before (set after n (f k))
-one-copied start k n f before after e l was = record {
-  long = simp length-set was.long;
-  here = λ i m.
-      ⊎_elim (λ lt. get_or-set_other after n (start + i) (f k) 0 (λ q. omega arith) ∙ was.here i lt)
-      (λ ge.
-      let own : start + i ≡ n = omega arith in
-      let last : k ≡ i = omega arith in
-      rw own (get_or-set_same after n (f k) 0 l) ∙ ap f last)
-      (by_lt i k);
-  rest = λ i o.
-      get_or-set_other after n i (f k) 0 (λ q. ⊎_elim (λ lt. omega arith) (λ ge. omega arith) o)
-      ∙ was.rest i (⊎_elim (λ lt. inl lt) (λ ge. inr (omega arith)) o);
-}
 
 -- ---- the rounds, on columns by themselves or 8 at a time
 
@@ -159,7 +138,7 @@ half-32 = record { some = omega arith; few = omega arith; low = refl }
 -- ---- the words compared with their columns
 
 -- a word that is the column i is the word i where the connections of i are mutual
-same-column : (links : List ℕ) (v i : ℕ) → ((n : ℕ) → word_at links n < 2 ^ node_limit) → v < 2 ^ node_limit
+same-column : (links : List ℕ) (v i : ℕ) → word_at links i < 2 ^ node_limit → v < 2 ^ node_limit
     → ((c : ℕ) → c < node_limit → has v c ≡ has (word_at links c) i)
     → eqb v (word_at links i) ≡ all_below node_limit (both_ways links i)
 same-column links v i small fits column =
@@ -168,12 +147,11 @@ same-column links v i small fits column =
     (λ e. let h = simp tests at e in
     simp eqb-iff (has-ext v (word_at links i) (λ c.
     ⊎_elim (λ lc. column c lc ∙ sym (h c lc))
-    (λ ge. has_above v node_limit c fits ge ∙ sym (has_above (word_at links i) node_limit c (small i) ge))
+    (λ ge. has_above v node_limit c fits ge ∙ sym (has_above (word_at links i) node_limit c small ge))
     (by_lt c node_limit))))
 
 -- of the turned units, the rows k are taken and turned on 8 columns at a time
 module _ (links turned zeros rows done : List ℕ) (k : ℕ) (lk : k < unit_rows) (t : TurnedBelow units links turned)
-    (small : (n : ℕ) → word_at links n < 2 ^ node_limit)
     (from : Copied 0 units (λ u. word_at turned (unit_rows * u + k)) zeros rows) (all : Turned unit_rows 1 rows done) where
   -- row u is then the column of its node
   column : (u c : ℕ) → u < units → c < node_limit → has (word_at done u) c ≡ has (word_at links c) (unit_rows * u + k)
@@ -188,9 +166,9 @@ module _ (links turned zeros rows done : List ℕ) (k : ℕ) (lk : k < unit_rows
       ∙ (t b (omega arith)).at k col lk (omega arith) ∙ ap₂ (λ (i n : ℕ). has (word_at links i) n) node own
 
   -- and its word, where its connections are mutual
-  pub same_row : (u : ℕ) → u < units → word_at done u < 2 ^ node_limit
+  pub same_row : (u : ℕ) → u < units → word_at links (unit_rows * u + k) < 2 ^ node_limit → word_at done u < 2 ^ node_limit
       → eqb (word_at done u) (word_at links (unit_rows * u + k)) ≡ all_below node_limit (both_ways links (unit_rows * u + k))
-  same_row u lu fits = same-column links (word_at done u) (unit_rows * u + k) small fits (λ c lc. column u c lu lc)
+  same_row u lu small fits = same-column links (word_at done u) (unit_rows * u + k) small fits (λ c lc. column u c lu lc)
 
 -- all 64 nodes are mutual where those of each row of the units are
 pub all-units : (links : List ℕ) → all_below unit_rows (units_mutual links) ≡ own_mutual links node_limit
@@ -203,9 +181,6 @@ all-units links =
     (λ e. let h = simp tests at e in simp tests (λ k l u m j n. h (unit_rows * u + k) (omega arith) j n))
 
 -- ---- one unit more
-
-pub none-turned : (links turned : List ℕ) → TurnedBelow 0 links turned
-none-turned links turned u l = absurd (omega arith)
 
 pub one-turned : (n : ℕ) (links before after : List ℕ) → TurnedBelow n links before → UnitTurned (unit_rows * n) links before after
     → TurnedBelow (n + 1) links after

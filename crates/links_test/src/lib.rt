@@ -33,39 +33,39 @@ const SIXTEENS: u64 = 0x0000_ffff_0000_ffff;
 const LOW_HALF: u64 = 0x0000_0000_ffff_ffff;
 
 // Whether the connections of each of the first n nodes are among those nodes, without the node itself.
-fn own_linked(links: &[u64], n: u32) -> bool
-    requires { (length links.now ≡ node_limit) × (n ≤ node_limit) }
+fn own_linked(links: &[u64; NODE_WORDS], n: u32) -> bool
+    requires { n ≤ node_limit }
     ensures { result ≡ own_linked links.now n }
 {
     let outside = !roster(n);
     let mut off: u64 = 0;
     for i in 0..n as usize {
-        off = off | (links[i] & (outside | (1 << i)));
+        off |= links[i] & (outside | (1 << i));
     }
     off == 0
 }
 
 // Whether the connections between node i and each node below it are mutual: they are where the lowest digit of every difference is 0.
-fn row_mutual(links: &[u64], i: usize) -> bool
-    requires { (length links.now ≡ node_limit) × (i < node_limit) }
+fn row_mutual(links: &[u64; NODE_WORDS], i: usize) -> bool
+    requires { i < node_limit }
     ensures { result ≡ all_below i (both_ways links.now i) }
 {
     let word = links[i];
     let mut off: u64 = 0;
     for j in 0..i {
-        off = off | ((word >> j) ^ (links[j] >> i));
+        off |= (word >> j) ^ (links[j] >> i);
     }
     off % 2 == 0
 }
 
 // Whether the connections between the first n nodes are mutual, pair by pair.
-fn pairs_mutual(links: &[u64], n: usize) -> bool
-    requires { (length links.now ≡ node_limit) × (n ≤ node_limit) }
+fn pairs_mutual(links: &[u64; NODE_WORDS], n: usize) -> bool
+    requires { n ≤ node_limit }
     ensures { result ≡ own_mutual links.now n }
 {
     let mut all = true;
     for i in 0..n {
-        all = all & row_mutual(links, i);
+        all &= row_mutual(links, i);
     }
     all
 }
@@ -96,7 +96,7 @@ fn upper(x: u64, y: u64, j: u32, mask: u64) -> u64
 
 // One round of turning the digits of a unit's rows: the place `apart` of the row's number and the place j of the column's change sides.
 fn exchange(rows: &mut [u64; UNIT], apart: usize, j: u32, mask: u64)
-    requires { (length rows.old ≡ unit_rows) × (0 < apart) × (Within apart) × (Half j mask) }
+    requires { (0 < apart) × (Within apart) × (Half j mask) }
     ensures { Exchanged apart j rows.old rows.new }
 {
     for k in 0..UNIT / 2 {
@@ -109,8 +109,8 @@ fn exchange(rows: &mut [u64; UNIT], apart: usize, j: u32, mask: u64)
 }
 
 // Turns the 8 rows from start on, each 8 columns by themselves, and writes them to the same place.
-fn turn_unit(links: &[u64], start: usize, turned: &mut [u64; NODE_WORDS])
-    requires { (length links.now ≡ node_limit) × (length turned.old ≡ node_limit) × (start + unit_rows ≤ node_limit) }
+fn turn_unit(links: &[u64; NODE_WORDS], start: usize, turned: &mut [u64; NODE_WORDS])
+    requires { start + unit_rows ≤ node_limit }
     ensures { UnitTurned start links.now turned.old turned.new }
 {
     let mut rows = [0u64; UNIT];
@@ -126,8 +126,8 @@ fn turn_unit(links: &[u64], start: usize, turned: &mut [u64; NODE_WORDS])
 }
 
 // What differs between the connections of the nodes k, 8 + k, 16 + k and so on and their columns, where the units are turned: the rounds at 32, 16 and 8.
-fn off_by_units(links: &[u64], turned: &[u64], k: usize) -> u64
-    requires { (length links.now ≡ node_limit) × (length turned.now ≡ node_limit) × (k < unit_rows) × (TurnedBelow units links.now turned.now) }
+fn off_by_units(links: &[u64; NODE_WORDS], turned: &[u64; NODE_WORDS], k: usize) -> u64
+    requires { (k < unit_rows) × (TurnedBelow units links.now turned.now) }
     ensures { empty result ≡ units_mutual links.now k }
 {
     let mut rows = [0u64; UNIT];
@@ -139,14 +139,13 @@ fn off_by_units(links: &[u64], turned: &[u64], k: usize) -> u64
     exchange(&mut rows, 1, 8, EIGHTS);
     let mut off: u64 = 0;
     for u in 0..UNITS {
-        off = off | (rows[u] ^ links[UNIT * u + k]);
+        off |= rows[u] ^ links[UNIT * u + k];
     }
     off
 }
 
 // Whether the connections between all 64 nodes are mutual: turned about the diagonal, the words are the same.
-fn turned_mutual(links: &[u64]) -> bool
-    requires { length links.now ≡ node_limit }
+fn turned_mutual(links: &[u64; NODE_WORDS]) -> bool
     ensures { result ≡ own_mutual links.now node_limit }
 {
     let mut turned = [0u64; NODE_WORDS];
@@ -155,7 +154,7 @@ fn turned_mutual(links: &[u64]) -> bool
     }
     let mut off: u64 = 0;
     for k in 0..UNIT {
-        off = off | off_by_units(links, &turned, k);
+        off |= off_by_units(links, &turned, k);
     }
     off == 0
 }
@@ -164,9 +163,9 @@ fn turned_mutual(links: &[u64]) -> bool
 pub fn links_sound(links: &[u64], n: u32) -> bool
     ensures { result ≡ links_sound links.now n }
 {
-    if links.len() != NODE_WORDS {
+    let Some(links) = links.as_array::<NODE_WORDS>() else {
         return false;
-    }
+    };
     if n > NODE_LIMIT {
         return false;
     }

@@ -23,12 +23,10 @@ struct Text {
 
 impl fmt::Write for Text {
     fn write_str(&mut self, s: &str) -> fmt::Result {
-        for b in s.as_bytes() {
-            if self.len < TEXT_ROOM {
-                self.bytes[self.len] = *b;
-                self.len += 1;
-            }
-        }
+        let more = s.len().min(TEXT_ROOM - self.len);
+        let end = self.len + more;
+        self.bytes[self.len..end].copy_from_slice(&s.as_bytes()[..more]);
+        self.len = end;
         Ok(())
     }
 }

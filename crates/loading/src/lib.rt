@@ -4,43 +4,33 @@
 mod arguments;
 mod failing;
 
-ghost use Rattle.std.specs.Prelude.{◌≤◌, length};
+ghost use Rattle.std.specs.Prelude.{◌≤◌, length, IfOk, IfErr};
 
 pub use arguments::is_given;
 pub use failing::{fail, fail_to_write};
 use std::io;
 use std::io::Read;
 
-// How many bytes were read, and the error of a read that failed.
+// A read that failed: how many bytes were read before, and the error.
 #[derive(Drop)]
-pub struct Input {
+pub struct ReadError {
     pub len: usize,
-    pub failed: Option<io::Error>,
+    pub error: io::Error,
 }
 
-// Reads an open file to its end, or until buf is full.
-pub fn read_all<R: Read>(from: &mut R, buf: &mut [u8]) -> Input
-    ensures { result.len ≤ length buf.new }
+// Reads an open file to its end, or until buf is full: how many bytes it read.
+pub fn read_all<R: Read>(from: &mut R, buf: &mut [u8]) -> Result<usize, ReadError>
+    ensures read { IfOk result (λ len. len ≤ length buf.new) }
+    ensures failed { IfErr result (λ e. e.len ≤ length buf.new) }
 {
     let mut len = 0;
+    // By hand: std's `read_to_end` needs a heap, and its `read_exact` says nothing of how much a shorter file has.
     while len < buf.len() {
         match from.read(&mut buf[len..]) {
-            Err(error) => {
-                return Input {
-                    len: len,
-                    failed: Some(error),
-                };
-            }
-            Ok(more) => {
-                if more == 0 {
-                    break;
-                }
-                len += more;
-            }
+            Err(error) => return Err(ReadError { len, error }),
+            Ok(0) => break,
+            Ok(more) => len += more,
         }
     }
-    Input {
-        len: len,
-        failed: None,
-    }
+    Ok(len)
 }

@@ -1,79 +1,42 @@
 -- The answers of the namespace functions as the code takes them apart. Assumes nothing.
-use mathlib.Core.Path.{◌≡◌, refl, sym, ap, ◌∙◌}
-use mathlib.Core.Bool.{Bool, true, false, cond}
-use mathlib.Core.Option.{Option, none, some}
-use Prim.Native.Nat.{ℕ}
-use native.Mathlib.Omega.{arith}
+use Rattle.std.proofs.Common.{◌≡◌, refl, sym, ap, ◌∙◌, List, Bool, true, false, cond, ℕ, ◌+◌, ◌-◌, ◌*◌, take, drop}
+use Rattle.std.proofs.Math.Option.{Option, none, some}
+use Rattle.std.specs.Prelude.{is_ok, Result, Ok}
 use Rattle.nodes.specs.Sets.{has}
-use Rattle.entries.specs.Entries.{host}
-use Rattle.entries.specs.Raw.{yes_no, answer_at, lookup_seen}
-use Rattle.entries.specs.declared.Change.{Change}
-use Rattle.entries.specs.declared.Change.TheVariants as change
-use Rattle.entries.specs.declared.Found.{Found}
-use Rattle.entries.specs.declared.Found.TheVariants as found_as
-use Rattle.entries.specs.declared.Held.{Held}
-use Rattle.entries.specs.declared.Held.TheVariants as held-as
+use Rattle.entries.specs.Entries.{host, lookup}
+use Rattle.entries.specs.Raw.{Found, found, answer_at, change_of, lookup_seen}
+use Rattle.entries.specs.declared.Refusal.{Refusal}
 use Rattle.entries.specs.declared.Seen.{Seen}
-use Rattle.entries.specs.declared.Seen.TheVariants as seen_as
-use Rattle.answers.specs.declared.Reason.TheVariants.{NotRegistered}
+use Rattle.entries.specs.declared.Seen.TheVariants.{Inside, Outside}
+use Rattle.semantics.specs.Sizes.{names_per_group, bodies_at}
+use Rattle.semantics.specs.State.{State}
 use Rattle.semantics.specs.Ranges.{held}
-use Rattle.semantics.specs.Steps.{beside, looked, nothing_found}
-use Rattle.names.specs.NamesHere.{changed}
+use Rattle.semantics.specs.Steps.{beside, looked}
+use Rattle.semantics.specs.WordsOfState.{Laid}
+use Rattle.names.specs.NamesAt.{Standing, counted, names_at}
+use Rattle.names.specs.NamesHere.{changed, changed-here}
 use Rattle.names.specs.Looked.{pid_with, looked_in}
 
--- ---- a change
+-- a change is made where the name is held
+pub changed-held : (x : Result Unit Refusal) (o : Option ℕ) → x ≡ changed o → is_ok x ≡ held o
+changed-held x none e = rw e
+changed-held x (some p) e = rw e
 
--- a change that was made is at a name that is held
-pub was-held : (x : Change) (o : Option ℕ) → x ≡ changed o → x ≡ change.Done → true ≡ held o
-was-held x (some p) e d = refl
-was-held x none e d = let z : ◌≡◌ {A = ℕ} 0 1 = cc in absurd (omega arith)
+-- so whether it is made tells whether the name was held
+pub told-held : {st : State} {t : List ℕ} (l : Laid names_per_group st t) (k : ℕ) (w : Standing k st) (b e : ℕ) → b ≡ bodies_at + names_per_group * k → e ≡ b + names_per_group
+    → (count n : ℕ) → count ≡ counted k t → (x : Result Unit Refusal) → x ≡ change_of (found count n (take (e - b) (drop b t))) → is_ok x ≡ held (lookup n (names_at k st))
+told-held {st} l k w b e eb ee count n many x told = changed-held x (lookup n (names_at k st)) (told ∙ rw many (changed-here l k w b e eb ee n))
 
--- any other is at one that is not
-pub was-absent : (x : Change) (o : Option ℕ) → x ≡ changed o → (x ≡ change.Done → ⊥) → false ≡ held o
-was-absent x (some p) e k = absurd (k e)
-was-absent x none e k = refl
-
--- ---- a test
-
-pub was-yes : (x : Held) (b : Bool) → x ≡ yes_no b → x ≡ held-as.Yes → true ≡ b
-was-yes x true e d = refl
-was-yes x false e d = let z : ◌≡◌ {A = ℕ} 0 1 = cc in absurd (omega arith)
-
-pub was-not : (x : Held) (b : Bool) → x ≡ yes_no b → (x ≡ held-as.Yes → ⊥) → false ≡ b
-was-not x true e k = absurd (k e)
-was-not x false e k = refl
-
--- ---- a search
-
-pub found_some : (i : ℕ) {j p : ℕ} (x : Found) (o : Option ℕ) → x ≡ answer_at i o → x ≡ found_as.At j p → o ≡ some p
-found_some i x none e d = let z : ◌≡◌ {A = ℕ} 0 1 = cc in absurd (omega arith)
-found_some i x (some q) e d = cc
-
-pub found_none : (i : ℕ) (x : Found) (o : Option ℕ) → x ≡ answer_at i o → ((j p : ℕ) → x ≡ found_as.At j p → ⊥) → o ≡ none
-found_none i x none e k = refl
-found_none i x (some q) e k = absurd (k i q e)
-
--- whether it found the name is whether the name is held
-pub found-held : (i : ℕ) {j p : ℕ} (x : Found) (o : Option ℕ) → x ≡ answer_at i o → x ≡ found_as.At j p → held o ≡ true
-found-held i x o e d = ap held (found_some i x o e d)
-
-pub found-absent : (i : ℕ) (x : Found) (o : Option ℕ) → x ≡ answer_at i o → ((j p : ℕ) → x ≡ found_as.At j p → ⊥) → held o ≡ false
-found-absent i x o e k = ap held (found_none i x o e k)
-
--- ---- a lookup
+-- a search finds the name where it is held
+pub found-held : (i : ℕ) (x : Found) (o : Option ℕ) → x ≡ answer_at i o → is_ok x ≡ held o
+found-held i x none e = rw e
+found-held i x (some p) e = rw e
 
 -- what the namespace tells by the members is what the lookup finds
-pub seen-looked : (members : ℕ) (x : Seen) (o : Option ℕ) → x ≡ lookup_seen members o → looked members o ≡ looked_in x
+pub seen-looked : (members : ℕ) (x : Result Seen Refusal) (o : Option ℕ) → x ≡ lookup_seen members o → looked members o ≡ looked_in x
 seen-looked members x none e = ap looked_in (sym e)
 seen-looked members x (some p) e = go (has members (host p)) ∙ ap looked_in (sym e)
   where
-    go : (b : Bool) → pid_with p (beside b) ≡ looked_in (cond b (seen_as.Inside p) (seen_as.Outside p))
+    go : (b : Bool) → pid_with p (beside b) ≡ looked_in (Ok (cond b (Inside p) (Outside p)))
     go true = refl
     go false = refl
-
--- one that has no pid
-pub seen_none : (x : Seen) → ((p : ℕ) → x ≡ seen_as.Inside p → ⊥) → ((p : ℕ) → x ≡ seen_as.Outside p → ⊥) → looked_in x ≡ nothing_found NotRegistered
-seen_none (seen_as.Inside p) h k = absurd (h p refl)
-seen_none (seen_as.Outside p) h k = absurd (k p refl)
-seen_none seen_as.Absent h k = refl
-seen_none seen_as.Unfit h k = refl

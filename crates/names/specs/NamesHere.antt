@@ -1,17 +1,16 @@
 -- What the namespace functions find in the words of an s_group of a table, and the table after they changed them. Assumes nothing.
-use Rattle.std.specs.Prelude.{◌≡◌, refl, true, false, List, ◌∷◌, ◌++◌, ℕ, zero, suc, ◌+◌, ◌-◌, ◌*◌, ◌<◌, length, get_or, take, drop, set}
+use Rattle.std.specs.Prelude.{◌≡◌, refl, true, false, List, ◌∷◌, ◌++◌, ℕ, zero, suc, ◌+◌, ◌-◌, ◌*◌, ◌<◌, length, get_or, take, drop, set, is_ok, Result, Ok, Err}
 use Rattle.std.proofs.Common.{sym, ap, ◌∙◌, subst, arith, length-append, le-leb, le-ltb, eq-eqb, ne_eqb}
 use Rattle.std.proofs.lemmas.Bool.{false≢true}
 use Rattle.std.proofs.Math.Option.{Option, none, some}
 use Rattle.std.proofs.lemmas.List.{set_at, set-get_or}
 use Rattle.entries.specs.Entries.{Entry, insert, remove, renew, lookup, rank, holds_pid, drop_hosted, words}
-use Rattle.entries.specs.Raw.{place, found, found_at, answer_at, seen_of, lookup_seen, pid_answer, yes_no, added, dropped, replaced, change_of, hosted_answer, hosted_dropped}
+use Rattle.entries.specs.Raw.{place, found, found_at, answer_at, seen_of, lookup_seen, pid_answer, added, dropped, replaced, change_of, hosted_answer, hosted_dropped}
 use Rattle.entries.specs.EntryLaws.{length-insert, length-remove, length-renew, remove_absent}
 use Rattle.entries.specs.NamespaceKept.{length-drop_hosted}
 use Rattle.entries.specs.NamespaceMeaning.{found-words, seen-words, pid_answer-words, added-words, dropped-words, replaced-words, hosted_answer-words, hosted_dropped-words}
-use Rattle.entries.specs.declared.Change.{Change}
-use Rattle.entries.specs.declared.Change.TheVariants as change
-use Rattle.entries.specs.declared.Counted.TheVariants as counts
+use Rattle.entries.specs.declared.Refusal.{Refusal}
+use Rattle.entries.specs.declared.Refusal.TheVariants.{Absent}
 use Rattle.semantics.specs.Sizes.{group_limit, group_names, names_per_group, contents_at, members_at, bodies_at}
 use Rattle.semantics.specs.State.{Group, State, with_groups}
 use Rattle.semantics.specs.Ranges.{held}
@@ -27,9 +26,9 @@ use Rattle.names.specs.NamesAt.{Standing, counted, names_at, renamed, with_names
 use Rattle.names.specs.Renamed.{contents-here, count-here, own_words, renamed-as-many, renamed-counted}
 
 -- what a change at a name answers of a lookup
-abbrev pub changed : Option ℕ → Change
-changed none = change.Absent
-changed (some p) = change.Done
+abbrev pub changed : Option ℕ → Result Unit Refusal
+changed none = Err Absent
+changed (some p) = Ok tt
 
 pub is_held : (o : Option ℕ) → held o ≡ true → (p : ℕ) × (o ≡ some p)
 is_held none h = absurd (false≢true h)
@@ -58,12 +57,12 @@ module _ {st : State} {t : List ℕ} (l : Laid names_per_group st t) (k : ℕ) (
     pub changed-here : (n : ℕ) → change_of (found (counted k t) n (take (e - b) (drop b t))) ≡ changed (lookup n (names_at k st))
     changed-here n = ap change_of (found_here n) ∙ changed-at (rank n (names_at k st)) (lookup n (names_at k st))
 
-    pub pid-here : (p : ℕ) → pid_answer (counted k t) p (take (e - b) (drop b t)) ≡ yes_no (holds_pid p (names_at k st))
+    pub pid-here : (p : ℕ) → pid_answer (counted k t) p (take (e - b) (drop b t)) ≡ Ok (holds_pid p (names_at k st))
     pid-here p =
         rw (count-is, own_words l k w.below b e eb ee) (pid_answer-words names_per_group st.size p (names_at k st) w.regular.names_sound)
 
     -- how many names are left without those of some hosts
-    pub left_here : (hosts : ℕ) → hosted_answer (counted k t) hosts (take (e - b) (drop b t)) ≡ counts.Of (length (drop_hosted hosts (names_at k st)))
+    pub left_here : (hosts : ℕ) → hosted_answer (counted k t) hosts (take (e - b) (drop b t)) ≡ Ok (length (drop_hosted hosts (names_at k st)))
     left_here hosts =
         rw (count-is, own_words l k w.below b e eb ee) (hosted_answer-words names_per_group st.size hosts (names_at k st) w.regular.names_sound)
 
@@ -102,7 +101,7 @@ module _ {st : State} {t : List ℕ} (l : Laid names_per_group st t) (k : ℕ) (
           (rw count-is (replaced-words names_per_group st.size n p (names_at k st) w.regular.names_sound)) r long left (length-renew n p (names_at k st))
 
       -- without the names of some hosts, the number of those that are left being stored
-      pub hosted-here : (hosts kept : ℕ) → counts.Of kept ≡ hosted_answer (counted k t) hosts (take (e - b) (drop b t))
+      pub hosted-here : (hosts kept : ℕ) → Ok kept ≡ hosted_answer (counted k t) hosts (take (e - b) (drop b t))
           → r ≡ hosted_dropped (counted k t) hosts (take (e - b) (drop b t))
           → Laid names_per_group (with_names k (drop_hosted hosts (names_at k st)) st) (set lent (contents_at + k) (get_or t (contents_at + k) 0 - group_names * (counted k t - kept)))
       hosted-here hosts kept told left =
@@ -111,15 +110,12 @@ module _ {st : State} {t : List ℕ} (l : Laid names_per_group st t) (k : ℕ) (
           (omega (arith, contents-here l k w.below, count-is, many, length-drop_hosted hosts (names_at k st)))
         where
           many : kept ≡ length (drop_hosted hosts (names_at k st))
-          many = let same : counts.Of kept ≡ counts.Of (length (drop_hosted hosts (names_at k st))) = told ∙ left_here hosts in cc
+          many = let same : ◌≡◌ {A = Result ℕ Refusal} (Ok kept) (Ok (length (drop_hosted hosts (names_at k st)))) = told ∙ left_here hosts in cc
 
 -- where a change was made there was a name
-pub some-name : (count n : ℕ) (ws : List ℕ) → change_of (found count n ws) ≡ change.Done → 0 < count
+pub some-name : (count n : ℕ) (ws : List ℕ) → is_ok (change_of (found count n ws)) ≡ true → 0 < count
 unfolding found found_at
-some-name zero n ws e =
-    let z : change.Absent ≡ change.Done = rw (le-leb 0 (length ws) (omega arith), le-ltb (place 0 n ws) 0 (omega arith)) at e in
-    let y : ◌≡◌ {A = ℕ} 0 1 = cc in
-    absurd (omega arith)
+some-name zero n ws e = absurd (false≢true (rw (le-leb 0 (length ws) (omega arith), le-ltb (place 0 n ws) 0 (omega arith)) at e))
 some-name (suc count) n ws e = omega arith
 
 -- ---- the s_group of a name

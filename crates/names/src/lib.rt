@@ -1,25 +1,36 @@
 // The names of the s_group at a place of the table: its own words are lent to the namespace functions, and its contents word counts them.
 #![tactic(auto)]
 
-ghost use Rattle.std.specs.Prelude.{◌≡◌, true, ◌<◌, length};
+ghost use Rattle.std.specs.Prelude.{◌≡◌, ◌+◌, ◌*◌, ◌<◌, length};
 ghost use Rattle.std.proofs.Math.Option.{none};
 ghost use Rattle.entries.specs.Entries.{insert, remove, renew, lookup, rank, holds_pid, drop_hosted};
 ghost use Rattle.entries.specs.Raw.{answer_at, lookup_seen};
-ghost use Rattle.semantics.specs.Sizes.{group_limit, names_per_group, table_words};
+ghost use Rattle.semantics.specs.Sizes.{group_limit, names_per_group, table_words, bodies_at};
 ghost use Rattle.semantics.specs.State.{State};
 ghost use Rattle.semantics.specs.Ranges.{held};
 ghost use Rattle.semantics.specs.Steps.{ask};
 ghost use Rattle.semantics.specs.Places.{group_at};
 ghost use Rattle.semantics.specs.Table.{state_of};
-ghost use Rattle.semantics.specs.Test.{sound};
 ghost use Rattle.semantics.specs.WordsOfState.{Laid};
 ghost use Rattle.names.specs.NamesAt.{Standing, counted, names_at, with_names};
 ghost use Rattle.names.specs.Looked.{looked_up};
 
 use answers::Reason;
-use entries::{Change, Counted, Found, Held, Seen};
+use entries::{Refusal, Seen};
 use layout::{BODIES_AT, CONTENTS_AT, GROUP_NAMES, MEMBERS_AT, NAMES_PER_GROUP};
-use place::{Access, place_for};
+use place::place_for;
+use sound_table::SoundTable;
+use std::ops::Range;
+
+// The bounds of the words of the s_group's names.
+fn own_words(at: usize) -> Range<usize>
+    requires { at < group_limit }
+    ensures start { result.start ≡ bodies_at + names_per_group * at }
+    ensures end { result.end ≡ result.start + names_per_group }
+{
+    let start = BODIES_AT + NAMES_PER_GROUP * at;
+    start..start + NAMES_PER_GROUP
+}
 
 // How many names the s_group has.
 pub fn names_count(t: &[u64], at: usize) -> usize
@@ -31,28 +42,22 @@ pub fn names_count(t: &[u64], at: usize) -> usize
 }
 
 // Where the name stands among the names, and its pid.
-pub fn find_name(t: &[u64], at: usize, n: u32) -> Found
+pub fn find_name(t: &[u64], at: usize, n: u32) -> Result<(usize, u32), Refusal>
     requires t_len { length t.now ≡ table_words names_per_group }
     requires at_lt_group_limit { at < group_limit }
     ensures { (st : State) → Laid names_per_group st t.now → Standing at st → result ≡ answer_at (rank n (names_at at st)) (lookup n (names_at at st)) }
 {
-    let count = (t[CONTENTS_AT + at] / GROUP_NAMES) as usize;
-    let start = BODIES_AT + NAMES_PER_GROUP * at;
-    let end = start + NAMES_PER_GROUP;
-    search::find(&t[start..end], count, n)
+    search::find(&t[own_words(at)], names_count(t, at), n)
 }
 
 // The pid of the name, and whether its host is a member.
-pub fn look_up(t: &[u64], at: usize, n: u32) -> Seen
+pub fn look_up(t: &[u64], at: usize, n: u32) -> Result<Seen, Refusal>
     requires t_len { length t.now ≡ table_words names_per_group }
     requires at_lt_group_limit { at < group_limit }
     ensures { (st : State) → Laid names_per_group st t.now → Standing at st → result ≡ lookup_seen (group_at st.groups at).members (lookup n (names_at at st)) }
 {
-    let count = (t[CONTENTS_AT + at] / GROUP_NAMES) as usize;
     let members = t[MEMBERS_AT + at];
-    let start = BODIES_AT + NAMES_PER_GROUP * at;
-    let end = start + NAMES_PER_GROUP;
-    search::look_up(&t[start..end], count, n, members)
+    search::look_up(&t[own_words(at)], names_count(t, at), n, members)
 }
 
 // Whether the pid stands under some name.
@@ -61,13 +66,7 @@ pub fn pid_held(t: &[u64], at: usize, p: u32) -> bool
     requires at_lt_group_limit { at < group_limit }
     ensures { (st : State) → Laid names_per_group st t.now → Standing at st → result ≡ holds_pid p (names_at at st) }
 {
-    let count = (t[CONTENTS_AT + at] / GROUP_NAMES) as usize;
-    let start = BODIES_AT + NAMES_PER_GROUP * at;
-    let end = start + NAMES_PER_GROUP;
-    match search::holds_pid(&t[start..end], count, p) {
-        Held::Yes => true,
-        _ => false,
-    }
+    search::holds_pid(&t[own_words(at)], names_count(t, at), p).unwrap_or(false)
 }
 
 // One name more, which is not held.
@@ -78,10 +77,8 @@ pub fn add_name(t: &mut [u64], at: usize, n: u32, p: u32)
     ensures { (st : State) → Laid names_per_group st t.old → Standing at st → lookup n (names_at at st) ≡ none → Laid names_per_group (with_names at (insert (record { name = n; pid = p }) (names_at at st)) st) t.new }
 {
     let contents = t[CONTENTS_AT + at];
-    let count = (contents / GROUP_NAMES) as usize;
-    let start = BODIES_AT + NAMES_PER_GROUP * at;
-    let end = start + NAMES_PER_GROUP;
-    namespace::add(&mut t[start..end], count, n, p);
+    let count = names_count(t, at);
+    namespace::add(&mut t[own_words(at)], count, n, p).unwrap();
     t[CONTENTS_AT + at] = contents + GROUP_NAMES;
 }
 
@@ -93,16 +90,12 @@ pub fn drop_name(t: &mut [u64], at: usize, n: u32) -> bool
     ensures laid { (st : State) → Laid names_per_group st t.old → Standing at st → Laid names_per_group (with_names at (remove n (names_at at st)) st) t.new }
 {
     let contents = t[CONTENTS_AT + at];
-    let count = (contents / GROUP_NAMES) as usize;
-    let start = BODIES_AT + NAMES_PER_GROUP * at;
-    let end = start + NAMES_PER_GROUP;
-    match namespace::drop_name(&mut t[start..end], count, n) {
-        Change::Done => {
-            t[CONTENTS_AT + at] = contents - GROUP_NAMES;
-            true
-        }
-        _ => false,
+    let count = names_count(t, at);
+    let dropped = namespace::drop_name(&mut t[own_words(at)], count, n).is_ok();
+    if dropped {
+        t[CONTENTS_AT + at] = contents - GROUP_NAMES;
     }
+    dropped
 }
 
 // The name with another pid, where it is held, and whether it is.
@@ -112,13 +105,8 @@ pub fn replace_name(t: &mut [u64], at: usize, n: u32, p: u32) -> bool
     ensures value { (st : State) → Laid names_per_group st t.old → Standing at st → result ≡ held (lookup n (names_at at st)) }
     ensures laid { (st : State) → Laid names_per_group st t.old → Standing at st → Laid names_per_group (with_names at (renew n p (names_at at st)) st) t.new }
 {
-    let count = (t[CONTENTS_AT + at] / GROUP_NAMES) as usize;
-    let start = BODIES_AT + NAMES_PER_GROUP * at;
-    let end = start + NAMES_PER_GROUP;
-    match namespace::replace(&mut t[start..end], count, n, p) {
-        Change::Done => true,
-        _ => false,
-    }
+    let count = names_count(t, at);
+    namespace::replace(&mut t[own_words(at)], count, n, p).is_ok()
 }
 
 // Without the names whose pid lives on a node of the set.
@@ -128,39 +116,23 @@ pub fn drop_hosted(t: &mut [u64], at: usize, set: u64)
     ensures { (st : State) → Laid names_per_group st t.old → Standing at st → Laid names_per_group (with_names at (drop_hosted set (names_at at st)) st) t.new }
 {
     let contents = t[CONTENTS_AT + at];
-    let count = (contents / GROUP_NAMES) as usize;
-    let start = BODIES_AT + NAMES_PER_GROUP * at;
-    let end = start + NAMES_PER_GROUP;
-    match namespace::drop_hosted(&mut t[start..end], count, set) {
-        Counted::Of(kept) => {
-            t[CONTENTS_AT + at] = contents - GROUP_NAMES * (count - kept) as u64;
-        }
-        Counted::Unfit => {}
+    let count = names_count(t, at);
+    if let Ok(kept) = namespace::drop_hosted(&mut t[own_words(at)], count, set) {
+        t[CONTENTS_AT + at] = contents - GROUP_NAMES * (count - kept) as u64;
     }
 }
 
-// What a lookup finds: the pid and the reason beside it, or why there is none.
-#[derive(Clone, Copy)]
-pub enum Lookup {
-    Found(u32, Reason),
-    Missing(Reason),
-}
-
-// What node `node` finds under the name in the s_group. Zero as the s_group's name finds nothing.
-pub fn look(t: &[u64], node: u32, s: u32, n: u32) -> Lookup
-    requires t_len { length t.now ≡ table_words names_per_group }
-    requires t_value { sound names_per_group t.now ≡ true }
-    ensures { looked_up result ≡ ask node s n (state_of names_per_group t.now) }
+// What node `node` finds under the name in the s_group: the pid and the reason beside it, or why there is none. Zero as the s_group's name finds nothing.
+pub fn look(t: SoundTable<'_>, node: u32, s: u32, n: u32) -> Result<(u32, Reason), Reason>
+    ensures { looked_up result ≡ ask node s n (state_of names_per_group t.entry.words.now) }
 {
     if s == 0 {
-        return Lookup::Missing(Reason::NotRegistered);
+        return Err(Reason::NotRegistered);
     }
-    match place_for(t, node, s) {
-        Access::Member(at) => match look_up(t, at, n) {
-            Seen::Inside(p) => Lookup::Found(p, Reason::Done),
-            Seen::Outside(p) => Lookup::Found(p, Reason::HostOutside),
-            _ => Lookup::Missing(Reason::NotRegistered),
-        },
-        Access::Denied(r) => Lookup::Missing(r),
+    let at = place_for(t, node, s)?;
+    match look_up(t.words, at, n) {
+        Ok(Seen::Inside(p)) => Ok((p, Reason::Done)),
+        Ok(Seen::Outside(p)) => Ok((p, Reason::HostOutside)),
+        Err(_) => Err(Reason::NotRegistered),
     }
 }

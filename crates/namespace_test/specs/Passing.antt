@@ -20,6 +20,10 @@ unfoldable pub name_before : ℕ → List ℕ → ℕ
 name_before zero ws = 0
 name_before (suc i) ws = get_or ws i 0 / half_word
 
+-- whether a word is plainly right after one of the name last: a higher name, and a slot that does not hold the stamp
+abbrev pub is_plain : ℕ → ℕ → ℕ → List ℕ → Bool
+is_plain word last stamp seen = not (leb (word / half_word) last || eqb (get_or seen (slot (word % half_word)) 0) stamp)
+
 -- the slot of each pid of the first i words holds the stamp
 abbrev pub Kept : List ℕ → ℕ → ℕ → List ℕ → Type 0
 Kept ws stamp i seen = (p : ℕ) → holds_pid p (entries i ws) ≡ true → get_or seen (slot p) 0 ≡ stamp
@@ -174,15 +178,16 @@ module _ {ws : List ℕ} {count stamp i : ℕ} {seen : List ℕ} (passed : Passe
         kept = rw e (kept_more ws stamp i seen passed.kept passed.long (omega arith));
       }
 
--- one word more that is plainly right: a higher name, and a slot that did not hold the stamp
+-- one word more that is plainly right
 pub reached-next : {ws : List ℕ} {count stamp i last : ℕ} {seen : List ℕ} → Reached ws count stamp i last seen → count ≤ length ws → i < count → get_or ws i 0 < half_word * half_word
-    → (held : Bool) → held ≡ eqb (get_or seen (slot (get_or ws i 0 % half_word)) 0) stamp → leb (get_or ws i 0 / half_word) last || held ≡ false
-    → (seen' : List ℕ) → seen' ≡ set seen (slot (get_or ws i 0 % half_word)) stamp → (j : ℕ) → j ≡ i + 1 → Reached ws count stamp j (get_or ws i 0 / half_word) seen'
-reached-next {ws} {stamp = stamp} {i = i} {last = last} {seen = seen} r used more b held t h seen' e j next =
-    let plain : (leb (get_or ws i 0 / half_word) last ≡ false) × (held ≡ false) = neither _ _ h in
-    let new = fresh ws stamp i seen r.1.kept (get_or ws i 0 % half_word) (eqb-false (get_or seen (slot (get_or ws i 0 % half_word)) 0) stamp (sym t ∙ plain.1)) in
-    rw next (sym (name-next i ws), passed-more r.1 used more b (omega (arith, leb-false (get_or ws i 0 / half_word) last plain.0)) new seen' e)
+    → is_plain (get_or ws i 0) last stamp seen ≡ true → (seen' : List ℕ) → seen' ≡ set seen (slot (get_or ws i 0 % half_word)) stamp
+    → (j name : ℕ) → j ≡ i + 1 → name ≡ get_or ws i 0 / half_word → Reached ws count stamp j name seen'
+reached-next {ws} {stamp = stamp} {i = i} {last = last} {seen = seen} r used more b h seen' e j name next named =
+    let plain : (leb (get_or ws i 0 / half_word) last ≡ false) × (eqb (get_or seen (slot (get_or ws i 0 % half_word)) 0) stamp ≡ false) = neither _ _ h in
+    let new = fresh ws stamp i seen r.1.kept (get_or ws i 0 % half_word) (eqb-false (get_or seen (slot (get_or ws i 0 % half_word)) 0) stamp plain.1) in
+    rw (next, named) (sym (name-next i ws), passed-more r.1 used more b (omega (arith, leb-false (get_or ws i 0 / half_word) last plain.0)) new seen' e)
   where
-    neither : (x y : Bool) → x || y ≡ false → (x ≡ false) × (y ≡ false)
-    neither false y h = (refl, h)
-    neither true y h = absurd (false≢true (sym h))
+    neither : (x y : Bool) → not (x || y) ≡ true → (x ≡ false) × (y ≡ false)
+    neither false false h = (refl, refl)
+    neither false true h = absurd (false≢true h)
+    neither true y h = absurd (false≢true h)

@@ -2,13 +2,13 @@
 // is cleared between two namespaces with different stamps. A slot that holds the stamp leads to an exact look back; whatever the slots hold, the answer is the same.
 #![tactic(auto)]
 
-ghost use Rattle.std.specs.Prelude.{◌≡◌, ◌&&◌, ◌≤◌, eqb, length, drop, get_or, set};
-ghost use Rattle.entries.specs.Entries.{holds_pid, entries};
+ghost use Rattle.std.specs.Prelude.{◌≡◌, ◌&&◌, ◌≤◌, ◌%◌, eqb, length, get_or, set};
+ghost use Rattle.entries.specs.Entries.{half_word, holds_pid, entries};
 ghost use Rattle.entries.specs.NamespaceSound.{is_ascending, is_distinct, is_hosted, all_zero, sound_words};
-ghost use Rattle.namespace_test.specs.Slots.{slot_count, slot};
-ghost use Rattle.namespace_test.specs.Passing.{name_before, Kept, Passed, Reached};
+ghost use Rattle.namespace_test.specs.Slots.{slot};
+ghost use Rattle.namespace_test.specs.Passing.{name_before, is_plain, Kept, Passed, Reached};
 
-use entries::{HALF_WORD, PIDS_PER_HOST};
+use entries::{host_of, name_of, pid_of};
 use nodes::NODE_LIMIT;
 use search::has_pid;
 
@@ -23,20 +23,18 @@ const SLOT_DIGIT: u64 = 4194304;
 // So many words are passed in a turn.
 const TURN: usize = 4;
 
-// Whether every word from `count` on is zero.
-fn zero_from(ns: &[u64], count: usize) -> bool
-    ensures { result ≡ all_zero (drop count ns.now) }
+// Whether every word is zero. It looks at all of them: that takes less time than to stop early.
+fn all_zero(words: &[u64]) -> bool
+    ensures { result ≡ all_zero words.now }
 {
     let mut any = 0;
-    let mut i = count;
-    while i < ns.len() {
-        any = any | ns[i];
-        i += 1;
+    for word in words {
+        any |= *word;
     }
     any == 0
 }
 
-// Whether each pid of the first `count` words has its host among the first `size` nodes. With a full roster every pid has.
+// Whether each pid of the first `count` words has its host among the first `size` nodes. With a full roster every pid has. It looks at all of them.
 fn hosted(ns: &[u64], count: usize, size: u32) -> bool
     requires { count ≤ length ns.now }
     ensures { result ≡ is_hosted size (entries count ns.now) }
@@ -45,11 +43,8 @@ fn hosted(ns: &[u64], count: usize, size: u32) -> bool
         return true;
     }
     let mut right = true;
-    let mut i = 0;
-    while i < count {
-        let pid = (ns[i] % HALF_WORD) as u32;
-        right = right & (pid / PIDS_PER_HOST < size);
-        i += 1;
+    for word in &ns[..count] {
+        right &= host_of(pid_of(*word)) < size;
     }
     right
 }
@@ -62,8 +57,7 @@ fn slot_of(pid: u32) -> usize
 }
 
 // Stamps the slot of the pid, and says whether it held the stamp before.
-fn taken(pid: u32, seen: &mut [u8], stamp: u8) -> bool
-    requires { length seen.old ≡ slot_count }
+fn taken(pid: u32, seen: &mut [u8; SLOT_COUNT], stamp: u8) -> bool
     ensures value { result ≡ eqb (get_or seen.old (slot pid) 0) stamp }
     ensures seen_after { seen.new ≡ set seen.old (slot pid) stamp }
 {
@@ -76,19 +70,33 @@ fn taken(pid: u32, seen: &mut [u8], stamp: u8) -> bool
 }
 
 // The name of the word before the one at `i`, and 0 before the first.
-fn name_before(ns: &[u64], i: usize) -> u64
+fn name_before(ns: &[u64], i: usize) -> u32
     requires { i ≤ length ns.now }
     ensures { result ≡ name_before i ns.now }
 {
     if i == 0 {
         return 0;
     }
-    ns[i - 1] / HALF_WORD
+    name_of(ns[i - 1])
 }
 
-// Passes the words from `from` on, four in a turn, up to one that is not plainly right or to the last three, and stamps the slot of each. A word that is not plainly
-// right has no higher name than the one before it, or a slot that held the stamp.
-fn pass(ns: &[u64], from: usize, before: u64, count: usize, seen: &mut [u8], stamp: u8) -> usize
+// Stamps the slot of the word's pid, and says whether the word is plainly right after one of the name `last`: its name is higher, and its slot did not hold the stamp.
+fn is_plain(word: u64, last: u32, seen: &mut [u8; SLOT_COUNT], stamp: u8) -> bool
+    ensures value { result ≡ is_plain word last stamp seen.old }
+    ensures seen_after { seen.new ≡ set seen.old (slot (word % half_word)) stamp }
+{
+    !((name_of(word) <= last) | taken(pid_of(word), seen, stamp))
+}
+
+// Passes the words from `from` on, four in a turn, up to one that is not plainly right or to the last three, and stamps the slot of each.
+fn pass(
+    ns: &[u64],
+    from: usize,
+    before: u32,
+    count: usize,
+    seen: &mut [u8; SLOT_COUNT],
+    stamp: u8,
+) -> usize
     requires { (count ≤ length ns.now) × (Reached ns.now count stamp from before seen.old) }
     ensures { (from ≤ result) × (Passed ns.now count stamp result seen.new) }
 {
@@ -99,53 +107,48 @@ fn pass(ns: &[u64], from: usize, before: u64, count: usize, seen: &mut [u8], sta
         let b = ns[i + 1];
         let c = ns[i + 2];
         let d = ns[i + 3];
-        if (a / HALF_WORD <= last) | taken((a % HALF_WORD) as u32, seen, stamp) {
+        if !is_plain(a, last, seen, stamp) {
             return i;
         }
-        if (b / HALF_WORD <= a / HALF_WORD) | taken((b % HALF_WORD) as u32, seen, stamp) {
+        if !is_plain(b, name_of(a), seen, stamp) {
             return i + 1;
         }
-        if (c / HALF_WORD <= b / HALF_WORD) | taken((c % HALF_WORD) as u32, seen, stamp) {
+        if !is_plain(c, name_of(b), seen, stamp) {
             return i + 2;
         }
-        if (d / HALF_WORD <= c / HALF_WORD) | taken((d % HALF_WORD) as u32, seen, stamp) {
+        if !is_plain(d, name_of(c), seen, stamp) {
             return i + 3;
         }
-        last = d / HALF_WORD;
+        last = name_of(d);
         i += TURN;
     }
     i
 }
 
 // Whether the pid of the word at `i` stands before it. It looks back only where the slot of the pid held the stamp.
-fn stands_before(ns: &[u64], i: usize, pid: u32, seen: &mut [u8], stamp: u8) -> bool
-    requires { (i ≤ length ns.now) × (length seen.old ≡ slot_count) × (Kept ns.now stamp i seen.old) }
+fn stands_before(ns: &[u64], i: usize, pid: u32, seen: &mut [u8; SLOT_COUNT], stamp: u8) -> bool
+    requires { (i ≤ length ns.now) × (Kept ns.now stamp i seen.old) }
     ensures value { result ≡ holds_pid pid (entries i ns.now) }
     ensures seen_after { seen.new ≡ set seen.old (slot pid) stamp }
 {
-    if taken(pid, seen, stamp) {
-        return has_pid(ns, i, pid);
-    }
-    false
+    taken(pid, seen, stamp) && has_pid(ns, i, pid)
 }
 
-// Whether the names of the first `count` words ascend from 1 and no pid stands twice.
-fn stamped(ns: &[u64], count: usize, seen: &mut [u8], stamp: u8) -> bool
-    requires { (count ≤ length ns.now) × (length seen.old ≡ slot_count) }
-    ensures value { result ≡ is_ascending 0 (entries count ns.now) && is_distinct (entries count ns.now) }
-    ensures seen_len { length seen.new ≡ slot_count }
+// Whether the names of the first `count` words ascend from 1 and no pid stands twice. By index: a pass says how far it came.
+fn stamped(ns: &[u64], count: usize, seen: &mut [u8; SLOT_COUNT], stamp: u8) -> bool
+    requires { count ≤ length ns.now }
+    ensures { result ≡ is_ascending 0 (entries count ns.now) && is_distinct (entries count ns.now) }
 {
     let mut last = 0;
     let mut i = 0;
     while i < count {
         i = pass(ns, i, last, count, seen, stamp);
         if i < count {
-            let word = ns[i];
-            let name = word / HALF_WORD;
+            let name = name_of(ns[i]);
             if name <= name_before(ns, i) {
                 return false;
             }
-            if stands_before(ns, i, (word % HALF_WORD) as u32, seen, stamp) {
+            if stands_before(ns, i, pid_of(ns[i]), seen, stamp) {
                 return false;
             }
             last = name;
@@ -156,18 +159,10 @@ fn stamped(ns: &[u64], count: usize, seen: &mut [u8], stamp: u8) -> bool
 }
 
 // Whether the run holds a sound namespace of `count` names, whose pids live on the first `size` nodes. It takes the least time where no slot holds the stamp.
-pub fn is_sound(ns: &[u64], count: usize, size: u32, seen: &mut [u8], stamp: u8) -> bool
-    requires { length seen.old ≡ slot_count }
-    ensures value { result ≡ sound_words size count ns.now }
-    ensures seen_len { length seen.new ≡ slot_count }
+pub fn is_sound(ns: &[u64], count: usize, size: u32, seen: &mut [u8; SLOT_COUNT], stamp: u8) -> bool
+    ensures { result ≡ sound_words size count ns.now }
 {
-    if ns.len() < count {
-        return false;
-    }
-    if !zero_from(ns, count) {
-        return false;
-    }
-    if !hosted(ns, count, size) {
+    if ns.len() < count || !all_zero(&ns[count..]) || !hosted(ns, count, size) {
         return false;
     }
     stamped(ns, count, seen, stamp)

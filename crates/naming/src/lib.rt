@@ -17,11 +17,11 @@ ghost use Rattle.names.specs.NamesAt.{names_at};
 ghost use Rattle.returns.specs.Settled.{Settles};
 
 use answers::{Answer, Reason, Value, done, refused, said};
-use entries::Found;
-use inputs::{name_reason, pid_reason};
-use layout::{NAMES_PER_GROUP, SIZE_AT};
+use inputs::{check_name, check_pid};
+use layout::NAMES_PER_GROUP;
 use names::{add_name, drop_name, find_name, names_count, pid_held, replace_name};
-use place::{Access, place_for};
+use place::place_for;
+use sound_table::SoundTable;
 
 // The name and the pid, neither of which is held, in the s_group at `at`, where it has room.
 fn register_new(t: &mut [u64], at: usize, n: u32, p: u32) -> Answer
@@ -42,7 +42,7 @@ fn register_in(t: &mut [u64], at: usize, n: u32, p: u32) -> Answer
     requires at_lt_group_limit { at < group_limit }
     ensures { (st : State) → Laid names_per_group st t.old → Regular names_per_group st → (s : ℕ) (w : Seat s at st.groups) → Settles s (register_in n p w.group) st result t.new }
 {
-    if let Found::At(_, _) = find_name(t, at, n) {
+    if find_name(t, at, n).is_ok() {
         return said(Value::False, Reason::NameTaken);
     }
     if pid_held(t, at, p) {
@@ -85,32 +85,31 @@ pub fn register_name(t: &mut [u64], caller: u32, s: u32, n: u32, p: u32) -> Answ
     ensures value { result ≡ (call 0 caller (RegisterName s n p) t.old).answer }
     ensures t_after { t.new ≡ (call 0 caller (RegisterName s n p) t.old).table }
 {
-    let size = t[SIZE_AT] as u32;
-    let reason = pid_reason(size, caller, s, n, p);
-    let Reason::Done = reason else {
+    let size = SoundTable { words: t }.size();
+    if let Err(reason) = check_pid(size, caller, s, n, p) {
         return refused(reason);
-    };
-    match place_for(t, caller, s) {
-        Access::Member(at) => register_in(t, at, n, p),
-        Access::Denied(denial) => said(Value::False, denial),
+    }
+    match place_for(SoundTable { words: t }, caller, s) {
+        Ok(at) => register_in(t, at, n, p),
+        Err(denial) => said(Value::False, denial),
     }
 }
 
-// The step of re_register_name.
+// The step of re_register_name. Apart from that of register_name, though alike: one step of both would take a closure, and its contract would have to
+// speak of the closure's, for every state and s_group, in place of the command's call.
 pub fn re_register_name(t: &mut [u64], caller: u32, s: u32, n: u32, p: u32) -> Answer
     requires t_len { length t.old ≡ table_words names_per_group }
     requires t_value { sound names_per_group t.old ≡ true }
     ensures value { result ≡ (call 0 caller (ReRegisterName s n p) t.old).answer }
     ensures t_after { t.new ≡ (call 0 caller (ReRegisterName s n p) t.old).table }
 {
-    let size = t[SIZE_AT] as u32;
-    let reason = pid_reason(size, caller, s, n, p);
-    let Reason::Done = reason else {
+    let size = SoundTable { words: t }.size();
+    if let Err(reason) = check_pid(size, caller, s, n, p) {
         return refused(reason);
-    };
-    match place_for(t, caller, s) {
-        Access::Member(at) => re_register_in(t, at, n, p),
-        Access::Denied(denial) => said(Value::False, denial),
+    }
+    match place_for(SoundTable { words: t }, caller, s) {
+        Ok(at) => re_register_in(t, at, n, p),
+        Err(denial) => said(Value::False, denial),
     }
 }
 
@@ -121,13 +120,12 @@ pub fn unregister_name(t: &mut [u64], caller: u32, s: u32, n: u32) -> Answer
     ensures value { result ≡ (call 0 caller (UnregisterName s n) t.old).answer }
     ensures t_after { t.new ≡ (call 0 caller (UnregisterName s n) t.old).table }
 {
-    let size = t[SIZE_AT] as u32;
-    let reason = name_reason(size, caller, s, n);
-    let Reason::Done = reason else {
+    let size = SoundTable { words: t }.size();
+    if let Err(reason) = check_name(size, caller, s, n) {
         return refused(reason);
-    };
-    match place_for(t, caller, s) {
-        Access::Member(at) => unregister_in(t, at, n),
-        Access::Denied(denial) => said(Value::False, denial),
+    }
+    match place_for(SoundTable { words: t }, caller, s) {
+        Ok(at) => unregister_in(t, at, n),
+        Err(denial) => said(Value::False, denial),
     }
 }

@@ -1,5 +1,5 @@
 -- How many nodes a set has. Assumes nothing.
-use Rattle.std.specs.Prelude.{◌≡◌, refl, true, false, ℕ, zero, suc, ◌+◌, ◌-◌, ◌*◌, ◌/◌, ◌%◌, ◌^◌, ◌≤◌, ◌<◌}
+use Rattle.std.specs.Prelude.{◌≡◌, refl, true, false, ℕ, zero, suc, ◌+◌, ◌*◌, ◌/◌, ◌%◌, ◌^◌, ◌≤◌, ◌<◌}
 use Rattle.std.proofs.Common.{sym, ap, ◌∙◌, pow-suc, arith, pow_pos, eqb-true, lt-ltb}
 use Rattle.std.proofs.Math.Arith.{lt-one}
 use Rattle.std.specs.Int.Count.{ones, ones_in, ones_step, ones-ones}

@@ -1,9 +1,11 @@
 // Sets of nodes in a word: node i is in the set where the binary digit i of the word is 1.
 #![tactic(auto)]
 
-ghost use Rattle.std.specs.Prelude.{◌≡◌, min, take};
+ghost use Rattle.std.specs.Prelude.{◌≡◌, min, take, MatchOption};
+ghost use Rattle.std.specs.Iterator.{at_most};
 ghost use Rattle.nodes.specs.Sets.{node_limit, has, union, inter, diff, with_node, without_node, subset, roster, beyond};
 ghost use Rattle.nodes.specs.Sets.{count, lowest, rest, word_at, unions_at, union_all};
+ghost use Rattle.nodes.specs.Members.{Step};
 
 // How many nodes there can be.
 pub const NODE_LIMIT: u32 = 64;
@@ -96,11 +98,34 @@ pub fn rest(set: u64) -> u64
     if set == 0 { 0 } else { set & (set - 1) }
 }
 
+// A walk over a set: its nodes, lowest first. It holds those that are left.
+#[derive(Drop)]
+pub struct Members(pub u64);
+
+impl Iterator for Members {
+    type Item = u32;
+
+    // Each node makes the number less.
+    ghost remaining = { λ s. at_most s.0 };
+
+    // A node is a step of the walk; after none is left, none is left.
+    ghost next_gives = { λ s r t. MatchOption r ((s.0 ≡ 0) × (t.0 ≡ 0)) (λ node. Step s.0 node t.0) };
+
+    fn next(&mut self) -> Option<u32> {
+        let left = self.0;
+        if left == 0 {
+            return None;
+        }
+        self.0 = rest(left);
+        Some(lowest(left))
+    }
+}
+
 // The word at i, and the empty set past the end.
 pub fn word_at(words: &[u64], i: usize) -> u64
     ensures { result ≡ word_at words.now i }
 {
-    if i < words.len() { words[i] } else { 0 }
+    words.get(i).copied().unwrap_or(0)
 }
 
 // The union of the words at the nodes of the set, lowest first.
@@ -108,10 +133,8 @@ pub fn unions_at(words: &[u64], set: u64) -> u64
     ensures { result ≡ unions_at words.now set }
 {
     let mut all: u64 = 0;
-    let mut left = set;
-    while left != 0 {
-        all = all | word_at(words, lowest(left) as usize);
-        left = rest(left);
+    for node in Members(set) {
+        all |= word_at(words, node as usize);
     }
     all
 }
@@ -121,13 +144,8 @@ pub fn union_all(words: &[u64], n: usize) -> u64
     ensures { result ≡ union_all (take n words.now) }
 {
     let mut all: u64 = 0;
-    let mut i: usize = 0;
-    while i < words.len() {
-        if i == n {
-            return all;
-        }
-        all = all | words[i];
-        i += 1;
+    for word in &words[..n.min(words.len())] {
+        all |= *word;
     }
     all
 }

@@ -8,19 +8,17 @@ ghost use Rattle.semantics.specs.Call.{opening};
 
 use answers::{Answer, Reason, Value, done, refused};
 use layout::{BODIES_AT, FREE_AT, HIDDEN_AT, NODE_LIMIT, SIZE_AT, TABLE_WORDS};
+use nodes::Members;
 
 // Each node of the set stands in its own word, alone.
 fn alone(words: &mut [u64], set: u64)
     ensures { words.new ≡ mapi (λ i w. cond (has set i) (with_node 0 i) w) 0 words.old }
 {
-    let mut left = set;
-    while left != 0 {
-        let node = nodes::lowest(left);
+    for node in Members(set) {
         let i = node as usize;
         if i < words.len() {
             words[i] = nodes::with(0, node);
         }
-        left = nodes::rest(left);
     }
 }
 

@@ -1,41 +1,48 @@
 -- What the place of a name means where s_groups are in order of name: the s_group that stands there, or the room for one; and for a node,
 -- that it is a member, or the reason why not. Assumes nothing.
-use Rattle.std.specs.Prelude.{◌≡◌, refl, true, false, List, [], ◌∷◌, ◌++◌, map, ℕ, suc, ◌+◌, ◌≤◌, ◌<◌, eqb, length, get_or, take, drop}
+use Rattle.std.specs.Prelude.{◌≡◌, refl, true, false, List, [], ◌∷◌, ◌++◌, map, ℕ, suc, ◌+◌, ◌≤◌, ◌<◌, eqb, length, take, drop, Ok, Err}
 use Rattle.std.proofs.Common.{sym, ap, ◌∙◌, subst, ⊎_elim, add-zero, zero-add, arith, lit<, lt-ltb, le-ltb, eq-eqb, ne_eqb}
 use Rattle.std.proofs.Math.Option.{Option, none, some}
-use Rattle.std.proofs.lemmas.List.{get_or_at}
+use Rattle.std.proofs.lemmas.List.{get_or_at, length-append, length-map, take-append-le}
+use Rattle.std.proofs.Math.Seq.{take-append_seam}
 use Rattle.std.proofs.lemmas.Bool.{eqb-false}
 use Rattle.nodes.specs.Sets.{has}
 use Rattle.nodes.specs.Bools.{by_lt, by_eq, by_test}
 use Rattle.entries.specs.Entries.{Entry}
-use Rattle.semantics.specs.Sizes.{group_limit, contents_at}
+use Rattle.semantics.specs.Sizes.{contents_at}
+use Rattle.semantics.specs.Soundness.{count_of}
 use Rattle.semantics.specs.State.{Group, State, find, put, add_group, drop_group}
 use Rattle.semantics.specs.Steps.{Result, error, Outcome, say, as_member, look_in, nothing_found, for_member}
 use Rattle.semantics.specs.Table.{contents, sections}
 use Rattle.semantics.specs.Regular.{Every, Rising, RegularGroup, Regular}
 use Rattle.semantics.specs.Places.{group_at, contents-name}
 use Rattle.semantics.specs.Groups.{found, found_name}
-use Rattle.semantics.specs.Sections.{read}
+use Rattle.semantics.specs.Sections.{onward}
 use Rattle.semantics.specs.WordsOfState.{Laid, count-is}
 use Rattle.answers.specs.declared.Value.{Value}
 use Rattle.answers.specs.declared.Reason.{Reason}
-use Rattle.place.specs.Place.{place_in, place_from, place_of, open_at, place_for}
-use Rattle.place.specs.declared.Place.{Place}
-use Rattle.place.specs.declared.Place.TheVariants.{At, Gap}
-use Rattle.place.specs.declared.Access.{Access}
-use Rattle.place.specs.declared.Access.TheVariants.{Member, Denied}
+use Rattle.place.specs.Place.{Place, Access, place_in, place_from, place_of, open_at, place_for}
 
 -- ---- the words
 
--- the contents words of s_groups, whatever follows
-place_words : (cap N i s : ℕ) (gs : List Group) (z : List ℕ) → Every (RegularGroup cap N) gs → place_in i (length gs) s (map contents gs ++ z) ≡ place_from i s gs
-place_words cap N i s [] z h = refl
-place_words cap N i s (g ∷ gs) z h = rw (contents-name g h.0.small, place_words cap N (i + 1) s gs z h.1)
+-- the contents words of s_groups
+place_words : (cap N i s : ℕ) (gs : List Group) → Every (RegularGroup cap N) gs → place_in i s (map contents gs) ≡ place_from i s gs
+place_words cap N i s [] h = refl
+place_words cap N i s (g ∷ gs) h = rw (contents-name g h.0.small, place_words cap N (i + 1) s gs h.1)
+
+-- the first words of a section are those of the s_groups
+front : (n : ℕ) (a z y ws : List ℕ) → ws ≡ (a ++ z) ++ y → n ≡ length a → take n ws ≡ a
+front n a z y ws is m =
+    ap (take n) is
+    ∙ take-append-le n (a ++ z) y (omega (arith, length-append a z))
+    ∙ rw m (take-append_seam a z)
 
 pub place-laid : {cap : ℕ} {st : State} {t : List ℕ} → Laid cap st t → Regular cap st → (s : ℕ)
-    → place_in 0 (get_or t 2 0) s (take group_limit (drop contents_at t)) ≡ place_of s st.groups
+    → place_in 0 s (take (count_of t) (drop contents_at t)) ≡ place_of s st.groups
 unfolding sections
-place-laid {cap} {st} l r s = rw (count-is l, read l.run 1 (lit< tt)) (place_words cap st.size 0 s st.groups _ r.each)
+place-laid {cap} {st} {t} l r s =
+    rw (front (count_of t) (map contents st.groups) _ _ _ (onward l.run 1 (lit< tt)) (count-is l ∙ sym (length-map st.groups contents)))
+    (place_words cap st.size 0 s st.groups r.each)
 
 -- ---- what it means
 
@@ -62,8 +69,8 @@ pub record Room (s k : ℕ) (gs : List Group) : Type 0 where
 
 -- what a place says
 abbrev pub Sought : ℕ → List Group → Place → Type 0
-Sought s gs (At k) = Seat s k gs
-Sought s gs (Gap k) = Room s k gs
+Sought s gs (Ok k) = Seat s k gs
+Sought s gs (Err k) = Room s k gs
 
 -- names below s
 abbrev Low : ℕ → List Group → Type 0
@@ -89,7 +96,7 @@ record Vacant (s : ℕ) (gs : List Group) : Type 0 where
   after : List Group
   is : gs ≡ before ++ after
   lows : Low s before
-  next : (i : ℕ) → place_from i s after ≡ Gap i
+  next : (i : ℕ) → place_from i s after ≡ Err i
   adding : (g : Group) → g.name ≡ s → add_group g gs ≡ before ++ g ∷ after
 
 other : (s : ℕ) (h : Group) (gs : List Group) → find s (h ∷ gs) ≡ none → (h.name ≡ s → ⊥) × (find s gs ≡ none)
@@ -134,7 +141,7 @@ sought s gs r = go (find s gs) refl
     go : (o : Option Group) → find s gs ≡ o → Sought s gs (place_of s gs)
     go none f =
         let w = vacant s gs f in
-        let e : place_of s gs ≡ Gap (length w.before) = ap (place_of s) w.is ∙ past 0 s w.before w.after w.lows ∙ w.next _ ∙ rw zero-add in
+        let e : place_of s gs ≡ Err (length w.before) = ap (place_of s) w.is ∙ past 0 s w.before w.after w.lows ∙ w.next _ ∙ rw zero-add in
         subst (λ (p : Place). Sought s gs p) (sym e)
         (record { before = w.before; after = w.after; is = w.is; stands = refl; finds = f; adding = w.adding })
     go (some g) f =
@@ -142,7 +149,7 @@ sought s gs r = go (find s gs) refl
         let n : g.name ≡ s = found_name s gs g f in
         let q : Rising 0 (w.before ++ g ∷ w.after) = rw (← w.is) r in
         let l : Low s w.before = subst (λ (x : ℕ). Low x w.before) n (low 0 w.before g w.after q) in
-        let e : place_of s gs ≡ At (length w.before) =
+        let e : place_of s gs ≡ Ok (length w.before) =
         ap (place_of s) w.is ∙ past 0 s w.before (g ∷ w.after) l ∙ rw (le-ltb g.name s (omega arith), eq-eqb g.name s n, zero-add) in
         subst (λ (p : Place). Sought s gs p) (sym e)
         (record { group = g; before = w.before; after = w.after; is = w.is; stands = refl; named = n; finds = f; putting = w.putting; dropping = w.dropping })
@@ -162,8 +169,8 @@ pub record Shut (i s : ℕ) (gs : List Group) (r : Reason) : Type 0 where
 
 -- what the place for a node says
 abbrev pub Granted : ℕ → ℕ → List Group → Access → Type 0
-Granted i s gs (Member k) = Open i s k gs
-Granted i s gs (Denied r) = Shut i s gs r
+Granted i s gs (Ok k) = Open i s k gs
+Granted i s gs (Err r) = Shut i s gs r
 
 -- the s_group that stands there is the one at that place
 pub seat-group : {s k : ℕ} {gs : List Group} (w : Seat s k gs) → group_at gs k ≡ w.group
@@ -173,10 +180,10 @@ pub granted : (i s : ℕ) (gs : List Group) → Rising 0 gs → Granted i s gs (
 granted i s gs r = go (place_of s gs) (sought s gs r)
   where
     go : (p : Place) → Sought s gs p → Granted i s gs (open_at i gs p)
-    go (At k) w =
+    go (Ok k) w =
         ⊎_elim
         (λ (h : has w.group.members i ≡ true). rw (seat-group w, h) (record { seat = w; member = h }))
         (λ (h : has w.group.members i ≡ false).
         rw (seat-group w, h) (record { outcomes = λ v f. rw (w.finds, h); results = λ st f. rw (w.finds, h); lookups = λ n. rw (w.finds, h) }))
         (by_test (has w.group.members i))
-    go (Gap k) w = record { outcomes = λ v f. rw w.finds; results = λ st f. rw w.finds; lookups = λ n. rw w.finds }
+    go (Err k) w = record { outcomes = λ v f. rw w.finds; results = λ st f. rw w.finds; lookups = λ n. rw w.finds }

@@ -1,72 +1,43 @@
 // Where the s_group of a name stands in a table, and for whom it is open.
 #![tactic(auto)]
 
-ghost use Rattle.std.specs.Prelude.{◌≡◌, true, ◌≤◌, length};
-ghost use Rattle.semantics.specs.Sizes.{names_per_group, table_words};
+ghost use Rattle.std.specs.Prelude.{◌≡◌};
+ghost use Rattle.semantics.specs.Sizes.{names_per_group};
 ghost use Rattle.semantics.specs.Table.{state_of};
-ghost use Rattle.semantics.specs.Test.{sound};
 ghost use Rattle.place.specs.Place.{place_in, place_of, place_for};
 
 use answers::Reason;
-use layout::{CONTENTS_AT, COUNT_AT, GROUP_NAMES, MEMBERS_AT};
+use layout::GROUP_NAMES;
+use sound_table::SoundTable;
 
-// Where the s_group of a name stands, or where it would be put.
-#[derive(Clone, Copy)]
-pub enum Place {
-    At(usize),
-    Gap(usize),
-}
-
-// Where the s_group stands that a node is a member of, or why the node has none of the name.
-#[derive(Clone, Copy)]
-pub enum Access {
-    Member(usize),
-    Denied(Reason),
-}
-
-// The place of the name among the first `count` contents words, which ascend by name.
-fn place_in(contents: &[u64], count: usize, s: u32) -> Place
-    requires { count ≤ length contents.now }
-    ensures { result ≡ place_in 0 count s contents.now }
+// The place of the name among contents words, which ascend by name: where it stands, or where it would be put.
+fn place_in(contents: &[u64], s: u32) -> Result<usize, usize>
+    ensures { result ≡ place_in 0 s contents.now }
 {
     let name = s as u64;
-    let mut i = 0;
-    while i < count {
-        let other = contents[i] % GROUP_NAMES;
+    for (i, word) in contents.iter().enumerate() {
+        let other = *word % GROUP_NAMES;
         if name <= other {
-            if other == name {
-                return Place::At(i);
-            }
-            return Place::Gap(i);
+            return if other == name { Ok(i) } else { Err(i) };
         }
-        i += 1;
     }
-    Place::Gap(i)
+    Err(contents.len())
 }
 
-// The place of the s_group.
-pub fn place_of(t: &[u64], s: u32) -> Place
-    requires t_len { length t.now ≡ table_words names_per_group }
-    requires t_value { sound names_per_group t.now ≡ true }
-    ensures { result ≡ place_of s (state_of names_per_group t.now).groups }
+// The place of the s_group: where it stands, or where it would be put.
+pub fn place_of(t: SoundTable<'_>, s: u32) -> Result<usize, usize>
+    ensures { result ≡ place_of s (state_of names_per_group t.entry.words.now).groups }
 {
-    let count = t[COUNT_AT] as usize;
-    place_in(&t[CONTENTS_AT..MEMBERS_AT], count, s)
+    place_in(t.contents(), s)
 }
 
-// The place of the s_group for a node that is in it.
-pub fn place_for(t: &[u64], node: u32, s: u32) -> Access
-    requires t_len { length t.now ≡ table_words names_per_group }
-    requires t_value { sound names_per_group t.now ≡ true }
-    ensures { result ≡ place_for node s (state_of names_per_group t.now).groups }
+// The place of the s_group for a node that is in it, or why the node has none of the name.
+pub fn place_for(t: SoundTable<'_>, node: u32, s: u32) -> Result<usize, Reason>
+    ensures { result ≡ place_for node s (state_of names_per_group t.entry.words.now).groups }
 {
-    match place_of(t, s) {
-        Place::At(at) => {
-            if nodes::has(t[MEMBERS_AT + at], node) {
-                return Access::Member(at);
-            }
-            Access::Denied(Reason::NotMember)
-        }
-        Place::Gap(_) => Access::Denied(Reason::GroupUnknown),
+    let at = place_of(t, s).map_err(|_| Reason::GroupUnknown)?;
+    if nodes::has(t.members()[at], node) {
+        return Ok(at);
     }
+    Err(Reason::NotMember)
 }

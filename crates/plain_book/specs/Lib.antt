@@ -1,3 +1,3 @@
--- A book without its index. `Numbers` has the number of a group atom, and laws of it; `Unindexed` is what is known of the lines that are passed. Assumes nothing.
-pub mod Numbers
+-- A book without its index. `Lines` tells its lines from what stands behind them; `Unindexed` is what is known of the lines that are passed. Assumes nothing.
+pub mod Lines
 pub mod Unindexed

@@ -2,26 +2,31 @@
 #![tactic(auto)]
 
 ghost use Rattle.std.specs.Prelude.{◌≡◌, true};
-ghost use Rattle.book.specs.Book.{fit, node_atoms, place_of};
-ghost use Rattle.plain_book.specs.Numbers.{number_in};
+ghost use Rattle.book.specs.Book.{fit, node_atoms, found_among, number_in};
 
-use book::{GROUP_ATOMS, LONGEST_ATOM};
+use book::GROUP_ATOMS;
+
+// A book for so many nodes.
+#[derive(Clone, Copy)]
+pub struct PlainBook<'a> {
+    pub text: &'a [u8],
+    pub nodes: u32,
+    ghost fits: { fit nodes text.now ≡ true },
+}
 
 // Whether a text is a book for n nodes.
 pub fn fits(book: &[u8], n: u32) -> bool
     ensures { result ≡ fit n book.now }
 {
     let mut i = 0;
+    // A place in the text, since each line is looked for in what stands in front of it.
     let mut at = 0;
     while at < book.len() {
         let e = at + text::find(&book[at..], b'\n');
         if book.len() <= e {
             return false;
         }
-        if e - at < 1 {
-            return false;
-        }
-        if LONGEST_ATOM < e - at {
+        if !book::is_atom(e - at) {
             return false;
         }
         if book::seek(&book[..at], &book[at..e]) < i {
@@ -37,31 +42,30 @@ pub fn fits(book: &[u8], n: u32) -> bool
     i - nodes <= GROUP_ATOMS
 }
 
-// The place of an atom among the node atoms of a book, or n where it is none of them.
-pub fn node_in(book: &[u8], n: u32, atom: &[u8]) -> u32
-    requires { fit n book.now ≡ true }
-    ensures { result ≡ place_of atom.now (node_atoms n book.now) }
-{
-    let nodes = n as usize;
-    let at = book::seek(book, atom);
-    if nodes <= at {
-        return n;
+impl PlainBook<'_> {
+    // The place of an atom among the node atoms; none where it is none of them.
+    pub fn node_in(&self, atom: &[u8]) -> Option<u32>
+        ensures { result ≡ found_among atom.now (node_atoms self.now.nodes self.now.text.now) }
+    {
+        let at = book::seek(self.text, atom);
+        if self.nodes as usize <= at {
+            return None;
+        }
+        Some(at as u32)
     }
-    at as u32
-}
 
-// The number of an atom among the group atoms of a book, from 1, or 0 where it is none of them. Behind the last line there is an empty one.
-pub fn group_in(book: &[u8], n: u32, atom: &[u8]) -> u64
-    requires { fit n book.now ≡ true }
-    ensures { result ≡ number_in n book.now atom.now }
-{
-    let nodes = n as usize;
-    let at = book::seek(book, atom);
-    if at < nodes {
-        return 0;
+    // The number of an atom among the group atoms, from 1; none where it is none of them. Behind the last line there is an empty one.
+    pub fn group_in(&self, atom: &[u8]) -> Option<u16>
+        ensures { result ≡ number_in self.now.nodes self.now.text.now atom.now }
+    {
+        let nodes = self.nodes as usize;
+        let at = book::seek(self.text, atom);
+        if at < nodes {
+            return None;
+        }
+        if book::line(self.text, at).is_empty() {
+            return None;
+        }
+        Some((at - nodes) as u16 + 1)
     }
-    if book::line(book, at).len() < 1 {
-        return 0;
-    }
-    (at - nodes) as u64 + 1
 }

@@ -1,6 +1,6 @@
 -- Where the groups of a launch file fit, each can be created behind those before it: its number is new and has its range, its nodes are on the roster and there
 -- is one, and there is room. Assumes nothing.
-use Rattle.std.specs.Prelude.{◌≡◌, Bool, not, ◌||◌, cond, ℕ, suc, ◌+◌, ◌*◌, ◌^◌, ◌≤◌, ◌<◌, eqb, ltb, take, get_or}
+use Rattle.std.specs.Prelude.{◌≡◌, Ok, Err, Bool, not, ◌||◌, cond, ℕ, suc, ◌+◌, ◌*◌, ◌^◌, ◌≤◌, ◌<◌, eqb, ltb, take, get_or}
 use Rattle.std.proofs.Math.Path.{refl, sym, ap}
 use Rattle.std.proofs.Common.{◌∙◌, arith, pow_pos, get_or-take, get_or-append-add}
 use Rattle.std.proofs.Math.Bool.{true, false, or-true, true≢false}
@@ -20,11 +20,10 @@ use Rattle.book.specs.PlaceLaws.{place-among}
 use Rattle.duplicates.specs.Duplicates.{covered, named, kept, clash}
 use Rattle.duplicates.specs.Names.{both, neither, apart, apart_at, kept-apart}
 use Rattle.plan.specs.Plan.{number_of, set_with, set_of, listed, all_listed, plan_words, fitting, verdict}
-use Rattle.plan.specs.Looked.{entered, fit-nodes, few-atoms, entered-told}
+use Rattle.plan.specs.Looked.{fit-nodes, few-atoms}
 use Rattle.plan.specs.Turns.{all_listed-append, plan_words-append}
 use Rattle.plan.specs.Peopled.{some_node, peopled, groups-peopled, kept-peopled}
-use Rattle.plan.specs.declared.Entered.TheVariants as Entered
-use Rattle.plan.specs.declared.Plan.TheVariants.{Clash, Unknown, TooMany, Fits}
+use Rattle.plan.specs.declared.Misfit.TheVariants.{Clash, Unknown, TooMany}
 
 -- a group has the number m
 abbrev pub numbered : ℕ → List ℕ → List Group → ℕ → Bool
@@ -63,13 +62,6 @@ module _ (N : ℕ) (book : List ℕ) where
   -- the number of a group in the book has its range
   pub number-high : fit N book ≡ true → (g : Group) → listed N book g ≡ true → number_of N book g < group_names
   number-high fits g h = omega (arith, listed-place g h, few-atoms N book fits)
-
-  -- so has that of a group that was looked up
-  pub entered-high : fit N book ≡ true → (w : List ℕ) (ws : List (List ℕ)) (number s : ℕ) → Entered.Group number s ≡ entered N book w ws → number < group_names
-  entered-high fits w ws number s e =
-      let g : Group = record { name = w; nodes = ws } in
-      let u = entered-told N book g (Entered.Group number s) e in
-      omega (arith, u.1, number-high fits g u.0)
 
   -- groups of other names have other numbers
   numbered-new : (ks : List Group) (g : Group) → all_listed N book ks ≡ true → named ks g.name ≡ false → numbered N book ks (number_of N book g) ≡ false
@@ -152,21 +144,21 @@ pub record Fitting (N : ℕ) (book : List ℕ) (gs : List Group) (k : ℕ) : Typ
   pub many : length gs ≡ k
   pub few : k ≤ group_limit
 
-fitting-parts : (N : ℕ) (book : List ℕ) (gs : List Group) (k : ℕ) → fitting N book gs ≡ Fits k → Fitting N book gs k
+fitting-parts : (N : ℕ) (book : List ℕ) (gs : List Group) (k : ℕ) → fitting N book gs ≡ Ok k → Fitting N book gs k
 unfolding fitting
 fitting-parts N book gs k h = go (all_listed N book gs) refl (ltb group_limit (length gs)) refl h
   where
     go : (a : Bool) → all_listed N book gs ≡ a → (b : Bool) → ltb group_limit (length gs) ≡ b
-        → cond (not a) Unknown (cond b TooMany (Fits (length gs))) ≡ Fits k → Fitting N book gs k
+        → cond (not a) (Err Unknown) (cond b (Err TooMany) (Ok (length gs))) ≡ Ok k → Fitting N book gs k
     go true p true e q = absurd (let z : ◌≡◌ {A = ℕ} 0 1 = cc in omega arith)
     go true p false e q = let m : length gs ≡ k = cc in record { known = p; many = m; few = omega (arith, ltb-false group_limit (length gs) e) }
     go false p b e q = absurd (let z : ◌≡◌ {A = ℕ} 0 1 = cc in omega arith)
 
-pub verdict-fits : (N : ℕ) (book : List ℕ) (start : ℕ) (gs : List Group) (k : ℕ) → verdict N book start gs ≡ Fits k → Fitting N book (kept gs) k
+pub verdict-fits : (N : ℕ) (book : List ℕ) (start : ℕ) (gs : List Group) (k : ℕ) → verdict N book start gs ≡ Ok k → Fitting N book (kept gs) k
 unfolding verdict
 verdict-fits N book start gs k h = fitting-parts N book (kept gs) k (go (clash gs (get_or (lines book) start [])) h)
   where
-    go : (c : Bool) → cond c Clash (fitting N book (kept gs)) ≡ Fits k → fitting N book (kept gs) ≡ Fits k
+    go : (c : Bool) → cond c (Err Clash) (fitting N book (kept gs)) ≡ Ok k → fitting N book (kept gs) ≡ Ok k
     go true q = absurd (let z : ◌≡◌ {A = ℕ} 0 1 = cc in omega arith)
     go false q = q
 
@@ -175,7 +167,7 @@ peopled-at [] g gs h = (both (some_node g.nodes) (peopled gs) h).0
 peopled-at (k ∷ ks) g gs h = peopled-at ks g gs (both (some_node k.nodes) (peopled (ks ++ (g ∷ gs))) h).1
 
 module _ (N : ℕ) (book : List ℕ) (fits : fit N book ≡ true) (small : N ≤ node_limit) where
-  pub creatable : (t : List ℕ) (at start k : ℕ) → verdict N book start (groups t at) ≡ Fits k
+  pub creatable : (t : List ℕ) (at start k : ℕ) → verdict N book start (groups t at) ≡ Ok k
       → (ks : List Group) (g : Group) (gs : List Group) → kept (groups t at) ≡ ks ++ (g ∷ gs) → Creatable N book ks g
   unfolding all_listed
   creatable t at start k f ks g gs e =

@@ -1,14 +1,14 @@
 -- What is to be made of the groups of a launch file: the number and the nodes of each, by the book, and whether they can be made. Definitions only.
 -- Assumes nothing.
-use Rattle.std.specs.Prelude.{Bool, true, not, ◌&&◌, cond, List, [], ◌∷◌, ℕ, suc, ltb, length, get_or}
+use Rattle.std.specs.Prelude.{Result, Ok, Err, Bool, true, not, ◌&&◌, cond, List, [], ◌∷◌, ℕ, suc, ltb, length, get_or}
 use Rattle.nodes.specs.Sets.{with_node}
 use Rattle.semantics.specs.Sizes.{group_limit}
 use Rattle.tokens.specs.Reserved.{among}
 use Rattle.grammar.specs.File.{Group}
 use Rattle.book.specs.Book.{lines, place_of, node_atoms, group_atoms_of}
 use Rattle.duplicates.specs.Duplicates.{covered, kept, clash}
-use Rattle.plan.specs.declared.Plan.{Plan}
-use Rattle.plan.specs.declared.Plan.TheVariants.{Clash, Unknown, TooMany, Fits}
+use Rattle.plan.specs.declared.Misfit.{Misfit}
+use Rattle.plan.specs.declared.Misfit.TheVariants.{Clash, Unknown, TooMany}
 
 -- the number of a group: its atom's place among the group atoms, from 1
 abbrev pub number_of : ℕ → List ℕ → Group → ℕ
@@ -38,12 +38,12 @@ plan_words N book [] = []
 plan_words N book (g ∷ gs) = number_of N book g ∷ set_of N book g ∷ plan_words N book gs
 
 -- whether these groups can be made, and how many they are
-unfoldable pub fitting : ℕ → List ℕ → List Group → Plan
+unfoldable pub fitting : ℕ → List ℕ → List Group → Result ℕ Misfit
 fitting N book gs =
-    cond (not (all_listed N book gs)) Unknown
-    (cond (ltb group_limit (length gs)) TooMany
-    (Fits (length gs)))
+    cond (not (all_listed N book gs)) (Err Unknown)
+    (cond (ltb group_limit (length gs)) (Err TooMany)
+    (Ok (length gs)))
 
 -- what speaks against the groups of a file, first of all, or how many are to be made; start is the starting node
-unfoldable pub verdict : ℕ → List ℕ → ℕ → List Group → Plan
-verdict N book start gs = cond (clash gs (get_or (lines book) start [])) Clash (fitting N book (kept gs))
+unfoldable pub verdict : ℕ → List ℕ → ℕ → List Group → Result ℕ Misfit
+verdict N book start gs = cond (clash gs (get_or (lines book) start [])) (Err Clash) (fitting N book (kept gs))

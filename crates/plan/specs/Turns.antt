@@ -1,5 +1,5 @@
 -- The groups are taken one after another: what is known between two of them, and what each turn makes of it. Assumes nothing.
-use Rattle.std.specs.Prelude.{◌≡◌, Bool, ◌&&◌, cond, ltb, set}
+use Rattle.std.specs.Prelude.{◌≡◌, Result, Ok, Err, Bool, ◌&&◌, cond, ltb, set}
 use Rattle.std.proofs.Math.Path.{refl, sym, ap}
 use Rattle.std.proofs.Common.{◌∙◌, take_at, take-suc-set}
 use Rattle.std.proofs.Math.Bool.{true, false, and-false}
@@ -13,7 +13,8 @@ use Rattle.grammar.specs.File.{Group}
 use Rattle.duplicates.specs.Duplicates.{made, kept_of, kept}
 use Rattle.plan.specs.Plan.{number_of, set_of, listed, all_listed, plan_words, fitting}
 use Rattle.plan.specs.Looked.{put}
-use Rattle.plan.specs.declared.Plan.TheVariants.{Unknown, TooMany, Fits}
+use Rattle.plan.specs.declared.Misfit.{Misfit}
+use Rattle.plan.specs.declared.Misfit.TheVariants.{Unknown, TooMany}
 
 -- ---- lists in two parts
 
@@ -112,7 +113,7 @@ module _ (N : ℕ) (book : List ℕ) (all : List Group) where
         keeps-it h = T.keeps ∙ ap (λ l. T.done ++ l) (rw (is, here, h))
 
         -- it is made, and is not in the book
-        pub taken-unknown : b ≡ true → listed N book g ≡ false → fitting N book (kept all) ≡ Unknown
+        pub taken-unknown : b ≡ true → listed N book g ≡ false → fitting N book (kept all) ≡ Err Unknown
         unfolding fitting all_listed
         taken-unknown h n = rw (unlisted)
           where
@@ -150,15 +151,15 @@ module _ (N : ℕ) (book : List ℕ) (all : List Group) where
 -- ---- at the end
 
 module _ (N : ℕ) (book : List ℕ) (all : List Group) (count k : ℕ) (words : List ℕ) (rest : List Group) (T : Taken N book all rest count k words) (is : rest ≡ []) where
-  pub taken-too-many : group_limit < k → fitting N book (kept all) ≡ TooMany
+  pub taken-too-many : group_limit < k → fitting N book (kept all) ≡ Err TooMany
   unfolding fitting
   taken-too-many l = let (e, m, h) = taken_all N book all rest count k words T is in rw (h, m, lt-ltb group_limit k l)
 
-  pub taken-fits : k ≤ group_limit → fitting N book (kept all) ≡ Fits k
+  pub taken-fits : k ≤ group_limit → fitting N book (kept all) ≡ Ok k
   unfolding fitting
   taken-fits l = let (e, m, h) = taken_all N book all rest count k words T is in rw (h, m, le-ltb group_limit k l)
 
-  pub taken-words : k ≤ group_limit → (i : ℕ) → Fits k ≡ Fits i → take (2 * i) words ≡ plan_words N book (kept all)
+  pub taken-words : k ≤ group_limit → (i : ℕ) → ◌≡◌ {A = Result ℕ Misfit} (Ok k) (Ok i) → take (2 * i) words ≡ plan_words N book (kept all)
   taken-words l i f =
       let j : i ≡ k = cc in
       let (e, m, h) = taken_all N book all rest count k words T is in

@@ -1,3 +1,3 @@
--- Where a place of a text stands. `Position` is the definition, `PositionLaws` the walk of the code. Assumes nothing.
+-- Where a place of a text stands. `Position` is the definition, `PositionLaws` how it goes byte by byte. Assumes nothing.
 pub mod Position
 pub mod PositionLaws

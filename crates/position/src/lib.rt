@@ -8,36 +8,18 @@ ghost use Rattle.position.specs.Position.{line_of, column_of};
 pub fn line(text: &[u8], at: usize) -> usize
     ensures { result ≡ line_of text.now at }
 {
-    let mut n = 1;
-    let mut i = 0;
-    while i < text.len() {
-        if at <= i {
-            return n;
-        }
-        if text[i] == b'\n' {
-            n += 1;
-        }
-        i += 1;
-    }
-    n
+    1 + text.iter().take(at).filter(|b| **b == b'\n').count()
 }
 
 // The column of a place in its line, from 1, in bytes.
+#[tactic(auto, using(crate::specs::PositionLaws::behind_more), unfolding(crate::specs::Position::behind))]
 pub fn column(text: &[u8], at: usize) -> usize
     ensures { result ≡ column_of text.now at }
 {
+    let before = &text[..at.min(text.len())];
     let mut n = 1;
-    let mut i = 0;
-    while i < text.len() {
-        if at <= i {
-            return n;
-        }
-        if text[i] == b'\n' {
-            n = 1;
-        } else {
-            n += 1;
-        }
-        i += 1;
+    for b in before {
+        n = if *b == b'\n' { 1 } else { n + 1 };
     }
     n
 }

@@ -9,9 +9,9 @@ use Rattle.answers.specs.declared.Answer.{Answer}
 use Rattle.answers.specs.declared.Value.{Value}
 use Rattle.answers.specs.declared.Value.TheVariants.{Ok, True, False, Error, Undefined, Pid, Grouped, Nodes, Listed}
 use Rattle.text.specs.Text.{newline}
-use Rattle.print.specs.Sheets.{Sheet, put}
 use Rattle.print.specs.Printed.{decimal_in, decimal, spaced, answer_line}
-use Rattle.print.specs.Putting.{put-append, put_next}
+use Rattle.print.specs.declared.Printer.{Printer}
+use Rattle.print.specs.Puts.{Puts, puts_next, puts_as}
 
 -- ---- what `io::decimal` writes is `decimal`
 
@@ -57,24 +57,21 @@ spaced-append [] b = refl
 spaced-append (n ∷ a) b = rw (spaced-append a b, append_assoc)
 
 -- numbers put behind numbers
-pub spaced-next : (p q r : Sheet) (a b : List ℕ) → q ≡ put p (spaced a) → r ≡ put q (spaced b) → r ≡ put p (spaced (a ++ b))
-spaced-next p q r a b e f = put_next p q r (spaced a) (spaced b) e f ∙ ap (put p) (sym (spaced-append a b))
+pub spaced_next : {p q r : Printer} → (a b : List ℕ) → Puts p q (spaced a) → Puts q r (spaced b) → Puts p r (spaced (a ++ b))
+spaced_next a b e f = puts_as (puts_next e f) (sym (spaced-append a b))
 
--- a value, the words of a list, the number of a reason and a newline, one behind the other, are the line of an answer
-pub answer-put : (p q r s t : Sheet) (list : List ℕ) (a : Answer) (n : ℕ) → q ≡ put p (output_word a.value ++ spaced (numbers a.value))
-    → r ≡ put q (spaced list) → n ≡ number a.reason → s ≡ put r (spaced (n ∷ [])) → t ≡ put s (newline ∷ []) → t ≡ put p (answer_line list a)
+-- the word of a value and its numbers, the words of a list, the number of a reason and a newline are the line of an answer
+pub answer_parts : (list : List ℕ) (a : Answer) → (output_word a.value ++ spaced (numbers a.value)) ++ (spaced list ++ (spaced (number a.reason ∷ []) ++ (newline ∷ []))) ≡ answer_line list a
 unfolding answer_line
-answer-put p q r s t list a n e f g h k =
-    put_next p s t _ _ (put_next p q s _ _ e (spaced-next q r s list (n ∷ []) f h)) k
-    ∙ ap (put p) (rw (g, append_assoc, append_assoc, ← (append_assoc (spaced (numbers a.value))), ← (spaced-append (numbers a.value))))
+answer_parts list a = rw (spaced-append (numbers a.value), spaced-append list) simp append_assoc
 
--- a turn of a loop over numbers, and its end
-pub spaced-turn : (p q : Sheet) (s : List ℕ) (i : ℕ) → i < length s → q ≡ put p (spaced (get_or s i 0 ∷ [])) → put p (spaced (drop i s)) ≡ put q (spaced (drop (i + 1) s))
-spaced-turn p q s i h e = rw (add-one, drop-cons s i 0, e, put-append, ← (spaced-append (get_or s i 0 ∷ []) (drop (suc i) s)))
+-- the first of some numbers that are left
+pub spaced_turn : (s : List ℕ) (i : ℕ) → i < length s → spaced (drop i s) ≡ spaced (get_or s i 0 ∷ []) ++ spaced (drop (i + 1) s)
+spaced_turn s i h = rw (add-one, drop-cons s i 0, ← (spaced-append (get_or s i 0 ∷ []) (drop (suc i) s)))
 
-pub spaced-end : (p : Sheet) (s : List ℕ) (i : ℕ) → length s ≤ i → put p (spaced (drop i s)) ≡ p
-unfolding put spaced
-spaced-end p s i h = rw (drop_of_length-le s h)
+pub spaced_end : (s : List ℕ) (i : ℕ) → length s ≤ i → spaced (drop i s) ≡ []
+unfolding spaced
+spaced_end s i h = rw (drop_of_length-le s h)
 
 -- ---- how long a line can be
 

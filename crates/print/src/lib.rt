@@ -3,108 +3,125 @@
 
 ghost use Rattle.std.specs.Prelude.{◌≡◌, [], ◌∷◌, ◌++◌};
 ghost use Rattle.answers.specs.Outputs.{output_word, numbers};
-ghost use Rattle.print.specs.Sheets.{sheet, put};
 ghost use Rattle.print.specs.Printed.{decimal, spaced, answer_line};
+ghost use Rattle.print.specs.Sheets.{sheet, put};
+ghost use Rattle.print.specs.Puts.{Puts};
 
 use answers::{Answer, Value};
 
 // The most digits that a number of 64 bits has.
 const MOST_DIGITS: usize = 20;
 
-// Puts one byte at a place, and answers the next place.
-fn put_byte(out: &mut [u8], at: usize, b: u8) -> usize
-    ensures { sheet out.new result ≡ put (sheet out.old at) (b ∷ []) }
-{
-    if at < out.len() {
-        out[at] = b;
-        at + 1
-    } else {
-        at
+// A run of bytes that the caller lends, printed on up to a place.
+#[derive(Drop)]
+pub struct Printer<'a> {
+    pub bytes: &'a mut [u8],
+    pub at: usize,
+}
+
+impl Printer<'_> {
+    // Puts one byte.
+    fn put_byte(&mut self, b: u8)
+        ensures { Puts self.old self.new (b ∷ []) }
+    {
+        if self.at < self.bytes.len() {
+            self.bytes[self.at] = b;
+            self.at += 1;
+        }
+    }
+
+    // Puts bytes.
+    pub fn put_bytes(&mut self, s: &[u8])
+        ensures { Puts self.old self.new s.now }
+    {
+        for b in s {
+            self.put_byte(*b);
+        }
+    }
+
+    // Puts a number in decimal.
+    pub fn put_number(&mut self, n: u64)
+        ensures { Puts self.old self.new (decimal n) }
+    {
+        let mut text = [0u8; MOST_DIGITS];
+        let k = io::decimal(n, &mut text);
+        self.put_bytes(&text[..k]);
+    }
+
+    // Puts a space and a number.
+    fn put_spaced(&mut self, n: u64)
+        ensures { Puts self.old self.new (spaced (n ∷ [])) }
+    {
+        self.put_byte(b' ');
+        self.put_number(n);
+    }
+
+    // Puts each of some numbers behind a space.
+    fn put_words(&mut self, words: &[u64])
+        ensures { Puts self.old self.new (spaced words.now) }
+    {
+        for word in words {
+            self.put_spaced(*word);
+        }
+    }
+
+    // Puts the word of a value and its numbers.
+    #[tactic(auto, using(crate::specs::Puts::puts_next), unfolding(crate::specs::Printed::spaced))]
+    fn put_value(&mut self, value: Value)
+        ensures { Puts self.old self.new (output_word value ++ spaced (numbers value)) }
+    {
+        match value {
+            Value::Ok => self.put_bytes(b"ok"),
+            Value::True => self.put_bytes(b"true"),
+            Value::False => self.put_bytes(b"false"),
+            Value::Error => self.put_bytes(b"error"),
+            Value::Undefined => self.put_bytes(b"undefined"),
+            Value::Pid(pid) => {
+                self.put_bytes(b"pid");
+                self.put_spaced(pid as u64);
+            }
+            Value::Grouped(name, set) => {
+                self.put_bytes(b"group");
+                self.put_spaced(name as u64);
+                self.put_spaced(set);
+            }
+            Value::Nodes(nodes, count) => {
+                self.put_bytes(b"nodes");
+                self.put_spaced(nodes);
+                self.put_spaced(count as u64);
+            }
+            Value::Listed(count) => {
+                self.put_bytes(b"list");
+                self.put_spaced(count as u64);
+            }
+        }
+    }
+
+    // Puts the line of an answer; `words` are those of its list.
+    pub fn put_answer(&mut self, words: &[u64], answer: Answer)
+        ensures { Puts self.old self.new (answer_line words.now answer) }
+    {
+        self.put_value(answer.value);
+        self.put_words(words);
+        self.put_spaced(answers::number(answer.reason) as u64);
+        self.put_byte(b'\n');
     }
 }
 
-// Puts bytes at a place, and answers the next place.
+// Puts bytes at a place of a run, and answers the next place.
 pub fn put_bytes(out: &mut [u8], at: usize, s: &[u8]) -> usize
     ensures { sheet out.new result ≡ put (sheet out.old at) s.now }
 {
-    let mut p = at;
-    let mut i = 0;
-    while i < s.len() {
-        p = put_byte(out, p, s[i]);
-        i += 1;
-    }
-    p
+    let mut printer = Printer { bytes: out, at };
+    printer.put_bytes(s);
+    printer.at
 }
 
-// Puts a number in decimal at a place, and answers the next place.
-pub fn put_number(out: &mut [u8], at: usize, n: u64) -> usize
-    ensures { sheet out.new result ≡ put (sheet out.old at) (decimal n) }
-{
-    let mut text = [0u8; MOST_DIGITS];
-    let k = io::decimal(n, &mut text);
-    put_bytes(out, at, &text[..k])
-}
-
-// Puts a space and a number.
-fn put_spaced(out: &mut [u8], at: usize, n: u64) -> usize
-    ensures { sheet out.new result ≡ put (sheet out.old at) (spaced (n ∷ [])) }
-{
-    let p = put_byte(out, at, b' ');
-    put_number(out, p, n)
-}
-
-// Puts each of some numbers behind a space.
-fn put_words(out: &mut [u8], at: usize, words: &[u64]) -> usize
-    ensures { sheet out.new result ≡ put (sheet out.old at) (spaced words.now) }
-{
-    let mut p = at;
-    let mut i = 0;
-    while i < words.len() {
-        p = put_spaced(out, p, words[i]);
-        i += 1;
-    }
-    p
-}
-
-// Puts the word of a value and its numbers.
-fn put_value(out: &mut [u8], at: usize, value: Value) -> usize
-    ensures { sheet out.new result ≡ put (sheet out.old at) (output_word value ++ spaced (numbers value)) }
-{
-    match value {
-        Value::Ok => put_bytes(out, at, b"ok"),
-        Value::True => put_bytes(out, at, b"true"),
-        Value::False => put_bytes(out, at, b"false"),
-        Value::Error => put_bytes(out, at, b"error"),
-        Value::Undefined => put_bytes(out, at, b"undefined"),
-        Value::Pid(pid) => {
-            let p = put_bytes(out, at, b"pid");
-            put_spaced(out, p, pid as u64)
-        }
-        Value::Grouped(name, set) => {
-            let p = put_bytes(out, at, b"group");
-            let q = put_spaced(out, p, name as u64);
-            put_spaced(out, q, set)
-        }
-        Value::Nodes(set, count) => {
-            let p = put_bytes(out, at, b"nodes");
-            let q = put_spaced(out, p, set);
-            put_spaced(out, q, count as u64)
-        }
-        Value::Listed(count) => {
-            let p = put_bytes(out, at, b"list");
-            put_spaced(out, p, count as u64)
-        }
-    }
-}
-
-// Puts the line of an answer; `words` are those of its list.
+// Puts the line of an answer at a place of a run, and answers the next place; `words` are those of its list.
 pub fn put_answer(out: &mut [u8], at: usize, words: &[u64], answer: Answer) -> usize
     ensures { sheet out.new result ≡ put (sheet out.old at) (answer_line words.now answer) }
 {
-    let value = answer.value;
-    let reason = answer.reason;
-    let p = put_value(out, at, value);
-    let q = put_words(out, p, words);
-    let r = put_spaced(out, q, answers::number(reason) as u64);
-    put_byte(out, r, b'\n')
+    let mut printer = Printer { bytes: out, at };
+    printer.put_answer(words, answer);
+    printer.at
 }

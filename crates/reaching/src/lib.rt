@@ -15,10 +15,10 @@ ghost use Rattle.semantics.specs.Call.{call};
 
 use answers::{Answer, Reason, Value, refused, said};
 use connecting::connect;
-use entries::PIDS_PER_HOST;
-use inputs::{asking_reason, host_reason, name_reason};
-use layout::SIZE_AT;
-use names::{Lookup, look};
+use entries::host_of;
+use inputs::{check_asking, check_host, check_name};
+use names::look;
+use sound_table::SoundTable;
 
 // The caller connects with the node on the way, and then with the host. Where nobody else is asked, the caller itself is the way. A function of
 // its own, so that sends stay short.
@@ -40,16 +40,15 @@ pub fn whereis_name_at(t: &mut [u64], caller: u32, node: u32, s: u32, n: u32) ->
     ensures value { result ≡ (call 0 caller (WhereisNameAt node s n) t.old).answer }
     ensures t_after { t.new ≡ (call 0 caller (WhereisNameAt node s n) t.old).table }
 {
-    let size = t[SIZE_AT] as u32;
-    let reason = asking_reason(size, caller, node, s, n);
-    let Reason::Done = reason else {
+    let size = SoundTable { words: t }.size();
+    if let Err(reason) = check_asking(size, caller, node, s, n) {
         return refused(reason);
-    };
-    let seen = look(t, node, s, n);
+    }
+    let seen = look(SoundTable { words: t }, node, s, n);
     connect(t, caller, node);
     match seen {
-        Lookup::Found(p, why) => said(Value::Pid(p), why),
-        Lookup::Missing(why) => said(Value::Undefined, why),
+        Ok((p, why)) => said(Value::Pid(p), why),
+        Err(why) => said(Value::Undefined, why),
     }
 }
 
@@ -60,12 +59,11 @@ pub fn send(t: &mut [u64], caller: u32, p: u32) -> Answer
     ensures value { result ≡ (call 0 caller (Send p) t.old).answer }
     ensures t_after { t.new ≡ (call 0 caller (Send p) t.old).table }
 {
-    let size = t[SIZE_AT] as u32;
-    let reason = host_reason(size, caller, p);
-    let Reason::Done = reason else {
+    let size = SoundTable { words: t }.size();
+    if let Err(reason) = check_host(size, caller, p) {
         return refused(reason);
-    };
-    connect_by(t, caller, caller, p / PIDS_PER_HOST);
+    }
+    connect_by(t, caller, caller, host_of(p));
     said(Value::Pid(p), Reason::Done)
 }
 
@@ -76,17 +74,16 @@ pub fn send_name(t: &mut [u64], caller: u32, s: u32, n: u32) -> Answer
     ensures value { result ≡ (call 0 caller (SendName s n) t.old).answer }
     ensures t_after { t.new ≡ (call 0 caller (SendName s n) t.old).table }
 {
-    let size = t[SIZE_AT] as u32;
-    let reason = name_reason(size, caller, s, n);
-    let Reason::Done = reason else {
+    let size = SoundTable { words: t }.size();
+    if let Err(reason) = check_name(size, caller, s, n) {
         return refused(reason);
-    };
-    match look(t, caller, s, n) {
-        Lookup::Found(p, why) => {
-            connect(t, caller, p / PIDS_PER_HOST);
+    }
+    match look(SoundTable { words: t }, caller, s, n) {
+        Ok((p, why)) => {
+            connect(t, caller, host_of(p));
             said(Value::Pid(p), why)
         }
-        Lookup::Missing(why) => said(Value::Undefined, why),
+        Err(why) => said(Value::Undefined, why),
     }
 }
 
@@ -97,17 +94,16 @@ pub fn send_at(t: &mut [u64], caller: u32, node: u32, s: u32, n: u32) -> Answer
     ensures value { result ≡ (call 0 caller (SendAt node s n) t.old).answer }
     ensures t_after { t.new ≡ (call 0 caller (SendAt node s n) t.old).table }
 {
-    let size = t[SIZE_AT] as u32;
-    let reason = asking_reason(size, caller, node, s, n);
-    let Reason::Done = reason else {
+    let size = SoundTable { words: t }.size();
+    if let Err(reason) = check_asking(size, caller, node, s, n) {
         return refused(reason);
-    };
-    match look(t, node, s, n) {
-        Lookup::Found(pid, why) => {
-            connect_by(t, caller, node, pid / PIDS_PER_HOST);
+    }
+    match look(SoundTable { words: t }, node, s, n) {
+        Ok((pid, why)) => {
+            connect_by(t, caller, node, host_of(pid));
             said(Value::Pid(pid), why)
         }
-        Lookup::Missing(why) => {
+        Err(why) => {
             connect(t, caller, node);
             said(Value::Undefined, why)
         }

@@ -1,11 +1,10 @@
 // The steps of registered_names and whereis_name.
 #![tactic(auto)]
 
-ghost use Rattle.std.specs.Prelude.{◌≡◌, true, ◌<◌, length};
+ghost use Rattle.std.specs.Prelude.{◌≡◌, ◌<◌, length};
 ghost use Rattle.semantics.specs.Sizes.{group_limit, names_per_group, table_words};
 ghost use Rattle.semantics.specs.State.{State};
 ghost use Rattle.commands.specs.declared.Command.TheVariants.{RegisteredNames, WhereisName};
-ghost use Rattle.semantics.specs.Test.{sound};
 ghost use Rattle.semantics.specs.Call.{call, listed_over};
 ghost use Rattle.semantics.specs.Places.{group_at};
 ghost use Rattle.semantics.specs.WordsOfState.{Laid};
@@ -14,11 +13,11 @@ ghost use Rattle.names.specs.NamesAt.{Standing};
 ghost use Rattle.returns.specs.Listing.{Told};
 
 use answers::{Answer, Reason, Value, done, refused, said};
-use entries::Counted;
-use inputs::{group_reason, name_reason};
-use layout::{BODIES_AT, NAMES_PER_GROUP, SIZE_AT};
-use names::{Lookup, look, names_count};
-use place::{Access, place_for};
+use inputs::{check_group, check_name};
+use layout::{BODIES_AT, NAMES_PER_GROUP};
+use names::{look, names_count};
+use place::place_for;
+use sound_table::SoundTable;
 
 // The names of the s_group `s`, which stands at `at`, in the run, where it has room.
 fn list_names(t: &[u64], at: usize, s: u32, out: &mut [u64]) -> Answer
@@ -30,42 +29,34 @@ fn list_names(t: &[u64], at: usize, s: u32, out: &mut [u64]) -> Answer
     let start = BODIES_AT + NAMES_PER_GROUP * at;
     let end = start + NAMES_PER_GROUP;
     match namespace::list_names(&t[start..end], count, s, out) {
-        Counted::Of(words) => done(Value::Listed(words)),
-        Counted::Unfit => refused(Reason::RunShort),
+        Ok(words) => done(Value::Listed(words)),
+        Err(_) => refused(Reason::RunShort),
     }
 }
 
 // The step of registered_names.
-pub fn registered_names(t: &[u64], caller: u32, s: u32, out: &mut [u64]) -> Answer
-    requires t_len { length t.now ≡ table_words names_per_group }
-    requires t_value { sound names_per_group t.now ≡ true }
-    ensures value { result ≡ (call (length out.old) caller (RegisteredNames s) t.now).answer }
-    ensures out_after { out.new ≡ listed_over (call (length out.old) caller (RegisteredNames s) t.now).list out.old }
+pub fn registered_names(t: SoundTable<'_>, caller: u32, s: u32, out: &mut [u64]) -> Answer
+    ensures value { result ≡ (call (length out.old) caller (RegisteredNames s) t.entry.words.now).answer }
+    ensures out_after { out.new ≡ listed_over (call (length out.old) caller (RegisteredNames s) t.entry.words.now).list out.old }
 {
-    let size = t[SIZE_AT] as u32;
-    let reason = group_reason(size, caller, s);
-    let Reason::Done = reason else {
+    if let Err(reason) = check_group(t.size(), caller, s) {
         return refused(reason);
-    };
+    }
     match place_for(t, caller, s) {
-        Access::Member(at) => list_names(t, at, s, out),
-        Access::Denied(denial) => said(Value::Listed(0), denial),
+        Ok(at) => list_names(t.words, at, s, out),
+        Err(denial) => said(Value::Listed(0), denial),
     }
 }
 
 // The step of whereis_name.
-pub fn whereis_name(t: &[u64], caller: u32, s: u32, n: u32) -> Answer
-    requires t_len { length t.now ≡ table_words names_per_group }
-    requires t_value { sound names_per_group t.now ≡ true }
-    ensures { result ≡ (call 0 caller (WhereisName s n) t.now).answer }
+pub fn whereis_name(t: SoundTable<'_>, caller: u32, s: u32, n: u32) -> Answer
+    ensures { result ≡ (call 0 caller (WhereisName s n) t.entry.words.now).answer }
 {
-    let size = t[SIZE_AT] as u32;
-    let reason = name_reason(size, caller, s, n);
-    let Reason::Done = reason else {
+    if let Err(reason) = check_name(t.size(), caller, s, n) {
         return refused(reason);
-    };
+    }
     match look(t, caller, s, n) {
-        Lookup::Found(p, why) => said(Value::Pid(p), why),
-        Lookup::Missing(why) => said(Value::Undefined, why),
+        Ok((p, why)) => said(Value::Pid(p), why),
+        Err(why) => said(Value::Undefined, why),
     }
 }

@@ -1,44 +1,22 @@
 -- Laws of `head_lines` and `slip`, and of a run that begins with some bytes, as far as it has room for them. Assumes nothing.
 use Rattle.std.specs.Prelude.{◌≡◌, refl, Bool, true, false, List, [], ◌∷◌, ◌++◌, ℕ, zero, suc, ◌+◌, ◌-◌, ◌≤◌, ◌<◌, leb, length, take, drop}
-use Rattle.std.proofs.Math.Path.{sym}
-use Rattle.std.proofs.Common.{ap, ◌∙◌, append-nil, arith, length-take, length-drop, drop_of_length-le, take_all, length-take-le}
-use borrow.Author.Tests.{eq-eqb, ne_eqb, lt-ltb, le-ltb, leb-true, leb-false}
+use Rattle.std.proofs.Common.{◌∙◌, append-nil, arith, length-take, length-drop, drop_of_length-le, take_all, length-take-le}
+use borrow.Author.Tests.{leb-true, leb-false}
 use Rattle.std.proofs.Math.Seq.{take-append_seam, take-append-add}
 use Rattle.text.specs.Text.{bytes}
-use Rattle.answers.specs.Answers.{number}
 use Rattle.answers.specs.declared.Reason.{Reason}
-use Rattle.answers.specs.declared.Reason.TheVariants.{NoLaunchFile}
 use Rattle.position.specs.Position.{line_of, column_of}
 use Rattle.print.specs.Printed.{decimal}
 use Rattle.print.specs.Sheets.{sheet, put}
 use Rattle.print.specs.Putting.{put-said}
-use Rattle.book.specs.Book.{fit}
-use Rattle.refusal_head.specs.Refusal.{error_line, place_words, slip, head_lines}
+use Rattle.refusal_head.specs.Refusal.{place_words, head_lines}
 
 -- ---- the head
-
-pub error-words : (r : Reason) (n p : ℕ) → n ≡ number r → bytes "error " ++ (decimal n ++ (bytes " " ++ (decimal p ++ bytes "\n"))) ≡ error_line r p
-unfolding error_line
-error-words r n p e = ap (λ (k : ℕ). bytes "error " ++ (decimal k ++ (bytes " " ++ (decimal p ++ bytes "\n")))) e
 
 pub placed-words : (name text : List ℕ) (p l k : ℕ) → l ≡ line_of text p → k ≡ column_of text p
     → name ++ (bytes ":" ++ (decimal l ++ (bytes ":" ++ (decimal k ++ bytes ": ")))) ≡ place_words name text p
 unfolding place_words
 placed-words name text p l k e f = rw (e, f)
-
-module _ (r : Reason) (n m : ℕ) (e : n ≡ number r) (f : m ≡ number NoLaunchFile) (p N : ℕ) (book : List ℕ) where
-  pub other-reason : (n ≡ m → ⊥) → false ≡ slip r p N book
-  unfolding slip
-  other-reason h = rw (← e, ne_eqb 18 n (λ g. h (sym g ∙ sym f)))
-
-  module _ (h : n ≡ m) where
-    pub slip-placed : 0 < p → true ≡ slip r p N book
-    unfolding slip
-    slip-placed l = rw (← e, eq-eqb 18 n (sym (h ∙ f)), lt-ltb 0 p l)
-
-    pub slip-fit : p ≤ 0 → fit N book ≡ slip r p N book
-    unfolding slip
-    slip-fit l = rw (← e, eq-eqb 18 n (sym (h ∙ f)), le-ltb 0 p l)
 
 pub same_head : (r : Reason) (p : ℕ) (t u : Bool) (name f g : List ℕ) → t ≡ u → f ≡ g → head_lines r p t name f ≡ head_lines r p u name g
 same_head r p t u name f g d e = rw (d, e)

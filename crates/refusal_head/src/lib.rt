@@ -3,63 +3,72 @@
 
 ghost use Rattle.std.specs.Prelude.{◌≡◌};
 ghost use Rattle.print.specs.Sheets.{sheet, put};
+ghost use Rattle.print.specs.Puts.{Puts, sheet_of};
 ghost use Rattle.refusal_head.specs.Refusal.{error_line, place_words, slip, head_lines};
 
 use answers::Reason;
-use print::{put_bytes, put_number};
+use print::Printer;
+use reader::Reader;
+
+// A text, and the name that messages give it.
+#[derive(Clone, Copy)]
+pub struct Named<'a> {
+    pub name: &'a [u8],
+    pub text: &'a [u8],
+}
 
 // Puts the reason and the place.
-fn put_error(out: &mut [u8], reason: Reason, place: usize) -> usize
-    ensures { sheet out.new result ≡ put (sheet out.old 0) (error_line reason place) }
+fn put_error(printer: &mut Printer, reason: Reason, place: usize)
+    ensures { Puts printer.old printer.new (error_line reason place) }
 {
-    let p = put_bytes(out, 0, b"error ");
-    let p = put_number(out, p, answers::number(reason) as u64);
-    let p = put_bytes(out, p, b" ");
-    let p = put_number(out, p, place as u64);
-    put_bytes(out, p, b"\n")
+    printer.put_bytes(b"error ");
+    printer.put_number(answers::number(reason) as u64);
+    printer.put_bytes(b" ");
+    printer.put_number(place as u64);
+    printer.put_bytes(b"\n");
 }
 
 // Puts the name of a text, the line and the column of a place in it.
-pub fn put_place(out: &mut [u8], at: usize, name: &[u8], text: &[u8], place: usize) -> usize
-    ensures { sheet out.new result ≡ put (sheet out.old at) (place_words name.now text.now place) }
+pub fn put_place(printer: &mut Printer, file: Named, place: usize)
+    ensures put { sheet_of printer.new ≡ put (sheet_of printer.old) (place_words file.entry.name.now file.entry.text.now place) }
+    ensures same_run { printer.new.bytes.ghost_name ≡ printer.old.bytes.ghost_name }
 {
-    let p = put_bytes(out, at, name);
-    let p = put_bytes(out, p, b":");
-    let p = put_number(out, p, reader::line_of(text, place) as u64);
-    let p = put_bytes(out, p, b":");
-    let p = put_number(out, p, reader::column_of(text, place) as u64);
-    put_bytes(out, p, b": ")
+    let at = Reader::new(file.text).moved(place);
+    printer.put_bytes(file.name);
+    printer.put_bytes(b":");
+    printer.put_number(at.line() as u64);
+    printer.put_bytes(b":");
+    printer.put_number(at.column() as u64);
+    printer.put_bytes(b": ");
 }
 
 // Whether it is a file that is refused for what it is, and not its book: a place in it is named, or the book is fit.
 pub fn is_slip(reason: Reason, place: usize, book: &[u8], n: u32) -> bool
     ensures { result ≡ slip reason place n book.now }
 {
-    if answers::number(reason) != answers::number(Reason::NoLaunchFile) {
+    if reason != Reason::NoLaunchFile {
         return false;
     }
-    if 0 < place {
-        return true;
+    let mut index = [0; book::INDEX_SIZE];
+    0 < place || book::fit(book, n, &mut index)
+}
+
+// Puts the reason and the place; of a slip, its line and column too.
+fn put_lines(printer: &mut Printer, reason: Reason, place: usize, slip: bool, file: Named)
+    ensures { Puts printer.old printer.new (head_lines reason place slip file.entry.name.now file.entry.text.now) }
+{
+    put_error(printer, reason, place);
+    if slip {
+        put_place(printer, file, place);
+        printer.put_bytes(b"expected ");
     }
-    let mut index = [0u8; book::INDEX_SIZE];
-    book::fit(book, n, &mut index)
 }
 
 // Puts what is determined of a refusal; of a slip, its line and column too.
-pub fn put_head(
-    out: &mut [u8],
-    reason: Reason,
-    place: usize,
-    slip: bool,
-    name: &[u8],
-    text: &[u8],
-) -> usize
-    ensures { sheet out.new result ≡ put (sheet out.old 0) (head_lines reason place slip name.now text.now) }
+pub fn put_head(out: &mut [u8], reason: Reason, place: usize, slip: bool, file: Named) -> usize
+    ensures { sheet out.new result ≡ put (sheet out.old 0) (head_lines reason place slip file.entry.name.now file.entry.text.now) }
 {
-    let p = put_error(out, reason, place);
-    if slip {
-        let p = put_place(out, p, name, text, place);
-        return put_bytes(out, p, b"expected ");
-    }
-    p
+    let mut printer = Printer { bytes: out, at: 0 };
+    put_lines(&mut printer, reason, place, slip, file);
+    printer.at
 }

@@ -1,5 +1,5 @@
 -- The ends of a command on a sound table: refused, denied, settled in its s_group, or told as a list. Assumes nothing.
-use Rattle.std.specs.Prelude.{◌≡◌, true, false, List, ℕ, ◌<◌, length}
+use Rattle.std.specs.Prelude.{◌≡◌, true, Ok, Err, List, ℕ, ◌<◌, length}
 use Rattle.std.proofs.Common.{ap, ◌∙◌, arith}
 use Rattle.semantics.specs.Sizes.{group_limit, names_per_group}
 use Rattle.semantics.specs.State.{Group}
@@ -14,17 +14,14 @@ use Rattle.answers.specs.declared.Answer.{Answer}
 use Rattle.answers.specs.declared.Value.{Value}
 use Rattle.answers.specs.declared.Value.TheVariants.{Error}
 use Rattle.answers.specs.declared.Reason.{Reason}
-use Rattle.answers.specs.declared.Reason.TheVariants.{Done}
-use Rattle.place.specs.Place.{place_for}
-use Rattle.inputs.specs.Judge.{is_done}
+use Rattle.place.specs.Place.{Access, place_for}
+use Rattle.inputs.specs.Judge.{Verdict, checked}
 use Rattle.returns.specs.Judged.{Goes, ForMembers, refused, denied, allowed}
 use Rattle.place.specs.Seats.{Open, seat-group}
 use Rattle.place.specs.Sound.{here, groups_few, granted-here, seat-below}
 use Rattle.returns.specs.Shown.{Says, Lists, says-kept, lists}
 use Rattle.returns.specs.Settled.{Settles, said}
 use Rattle.returns.specs.Listing.{Told}
-use Rattle.place.specs.declared.Access.{Access}
-use Rattle.place.specs.declared.Access.TheVariants.{Member, Denied}
 
 module _ (t : List ℕ) (ok : sound names_per_group t ≡ true) where
   -- the s_group of a member stands below their limit
@@ -32,16 +29,16 @@ module _ (t : List ℕ) (ok : sound names_per_group t ≡ true) where
   open-below o = omega (arith, seat-below t ok o.seat, groups_few t ok)
 
   -- where the code found that node i is a member, it is
-  pub opened : (i s : ℕ) {k : ℕ} (a : Access) → a ≡ place_for i s (here t).groups → a ≡ Member k → Open i s k (here t).groups
-  opened i s {k} a e d = granted-here t ok i s a (Member k) e d
+  pub opened : (i s : ℕ) {k : ℕ} (a : Access) → a ≡ place_for i s (here t).groups → a ≡ Ok k → Open i s k (here t).groups
+  opened i s {k} a e d = granted-here t ok i s a (Ok k) e d
 
-  module _ {room i : ℕ} {c : GroupCommand} {r : Reason} {v : Value} {k : Group → Outcome} (f : ForMembers room i c (here t) r v k) {q : Reason} (e : q ≡ r) where
-    pub says-refused : is_done q ≡ false → Says room i (within c) t (answer_of Error q) t
+  module _ {room i : ℕ} {c : GroupCommand} {r : Reason} {v : Value} {k : Group → Outcome} (f : ForMembers room i c (here t) r v k) {x : Verdict} (e : x ≡ checked r) where
+    pub says-refused : {q : Reason} → x ≡ Err q → Says room i (within c) t (answer_of Error q) t
     says-refused h = says-kept t ok (refused f.judging e h)
 
-    module _ (h : q ≡ Done) where
-      pub says-denied : {d : Reason} (a : Access) → a ≡ place_for i (target c) (here t).groups → a ≡ Denied d → Says room i (within c) t (answer_of v d) t
-      says-denied {d} a p n = says-kept t ok (denied f e h (granted-here t ok i (target c) a (Denied d) p n))
+    module _ (h : x ≡ Ok tt) where
+      pub says-denied : {d : Reason} (a : Access) → a ≡ place_for i (target c) (here t).groups → a ≡ Err d → Says room i (within c) t (answer_of v d) t
+      says-denied {d} a p n = says-kept t ok (denied f e h (granted-here t ok i (target c) a (Err d) p n))
 
       pub says-settled : {at : ℕ} (o : Open i (target c) at (here t).groups) {a : Answer} {u : List ℕ}
           → Settles (target c) (k o.seat.group) (here t) a u → Says room i (within c) t a u
@@ -53,15 +50,15 @@ module _ (t : List ℕ) (ok : sound names_per_group t ≡ true) where
     -- the answer and the list of the step
     pub heard : (o : List ℕ) {i : ℕ} {c : Command} {w : Result} {a : Answer} → Goes (length out) i c (here t) w → a ≡ w.answer → o ≡ listed_over w.list out
         → Lists i c t out a o
-    heard o g e l = let q = lists t ok out g in (e ∙ q.0, l ∙ q.1)
+    heard o g e l = let q = lists t ok out g in record { value = e ∙ q.value; out_after = l ∙ q.out_after }
 
-    module _ {i : ℕ} {c : GroupCommand} {r : Reason} {v : Value} {k : Group → Outcome} (f : ForMembers (length out) i c (here t) r v k) {q : Reason} (e : q ≡ r) where
-      pub lists-refused : is_done q ≡ false → Lists i (within c) t out (answer_of Error q) out
+    module _ {i : ℕ} {c : GroupCommand} {r : Reason} {v : Value} {k : Group → Outcome} (f : ForMembers (length out) i c (here t) r v k) {x : Verdict} (e : x ≡ checked r) where
+      pub lists-refused : {q : Reason} → x ≡ Err q → Lists i (within c) t out (answer_of Error q) out
       lists-refused h = lists t ok out (refused f.judging e h)
 
-      module _ (h : q ≡ Done) where
-        pub lists-denied : {d : Reason} (a : Access) → a ≡ place_for i (target c) (here t).groups → a ≡ Denied d → Lists i (within c) t out (answer_of v d) out
-        lists-denied {d} a p n = lists t ok out (denied f e h (granted-here t ok i (target c) a (Denied d) p n))
+      module _ (h : x ≡ Ok tt) where
+        pub lists-denied : {d : Reason} (a : Access) → a ≡ place_for i (target c) (here t).groups → a ≡ Err d → Lists i (within c) t out (answer_of v d) out
+        lists-denied {d} a p n = lists t ok out (denied f e h (granted-here t ok i (target c) a (Err d) p n))
 
         pub lists-told : {at : ℕ} → Open i (target c) at (here t).groups → {a : Answer} (o : List ℕ) → Told (k (group_at (here t).groups at)) out a o → Lists i (within c) t out a o
         lists-told p o w =

@@ -1,6 +1,6 @@
 -- The step of each command by the reason that the code finds first: Error with that reason, and nothing changed; or what the rest of the
 -- rule says. Assumes nothing.
-use Rattle.std.specs.Prelude.{◌≡◌, refl, Bool, true, false, not, ◌&&◌, cond, ℕ, eqb, leb, length}
+use Rattle.std.specs.Prelude.{◌≡◌, refl, Bool, true, false, not, ◌&&◌, cond, Ok, Err, ℕ, eqb, leb, length}
 use Rattle.std.proofs.Common.{sym, ◌∙◌}
 use Rattle.std.proofs.Math.Path.{ap}
 use Rattle.std.proofs.Math.Logic.{⊎_elim}
@@ -20,7 +20,8 @@ use Rattle.answers.specs.declared.Value.TheVariants.{True, False, Error, Undefin
 use Rattle.answers.specs.declared.Reason.{Reason}
 use Rattle.answers.specs.declared.Reason.TheVariants.{Done, CallerUnknown, GroupNameRange, NameZero, NodeUnknown, NameTaken, PidTaken, NotRegistered, NamespaceFull, CallerOutside, GroupTaken, GroupsFull}
 use Rattle.place.specs.Seats.{Open, Shut}
-use Rattle.inputs.specs.Judge.{is_done, first_reason, caller_reason, group_reason, name_reason, pid_reason, set_reason, creation_reason, asking_reason, host_reason}
+use Rattle.inputs.proofs.Reasons.{refuses, passes}
+use Rattle.inputs.specs.Judge.{is_done, Verdict, checked, first_reason, caller_reason, group_reason, name_reason, pid_reason, set_reason, creation_reason, asking_reason, host_reason}
 
 -- ---- a reason, and what it leaves of a rule
 
@@ -218,17 +219,19 @@ module _ (room i : ℕ) (st : State) where
   unfolding step rule
   step-own-s-groups = record { is = by-caller (refusal st) st.size i _ }
 
--- ---- at a return, where the code found the reason q
+-- ---- at a return, where x is what the code's check answered
 
-module _ {room i : ℕ} {c : Command} {st : State} {r : Reason} {w : Result} (j : Judging room i c st r w) {q : Reason} (e : q ≡ r) where
-  pub refused : is_done q ≡ false → Goes room i c st (error q st)
-  refused h = record { is = j.is ∙ ap (λ (x : Reason). judged (refusal st) x w) (sym e) ∙ ap (λ (b : Bool). cond b w (error q st)) h }
+module _ {room i : ℕ} {c : Command} {st : State} {r : Reason} {w : Result} (j : Judging room i c st r w) {x : Verdict} (e : x ≡ checked r) where
+  pub refused : {q : Reason} → x ≡ Err q → Goes room i c st (error q st)
+  refused {q} h =
+      let f = refuses e h in
+      record { is = j.is ∙ ap (λ (y : Reason). judged (refusal st) y w) (sym f.0) ∙ ap (λ (b : Bool). cond b w (error q st)) f.1 }
 
-  pub passed : q ≡ Done → Goes room i c st w
-  passed h = record { is = j.is ∙ ap (λ (x : Reason). judged (refusal st) x w) (sym e ∙ h) }
+  pub passed : x ≡ Ok tt → Goes room i c st w
+  passed h = record { is = j.is ∙ ap (λ (y : Reason). judged (refusal st) y w) (passes e h) }
 
-module _ {room i : ℕ} {c : GroupCommand} {st : State} {r : Reason} {v : Value} {k : Group → Outcome} (f : ForMembers room i c st r v k) {q : Reason} (e : q ≡ r)
-    (h : q ≡ Done) where
+module _ {room i : ℕ} {c : GroupCommand} {st : State} {r : Reason} {v : Value} {k : Group → Outcome} (f : ForMembers room i c st r v k) {x : Verdict} (e : x ≡ checked r)
+    (h : x ≡ Ok tt) where
   pub denied : {d : Reason} → Shut i (target c) st.groups d → Goes room i (within c) st (reply v d st)
   unfolding apply
   denied d = record { is = (passed f.judging e h).is ∙ ap (λ (o : Outcome). settle (target c) o st) (d.outcomes v k) }

@@ -1,5 +1,5 @@
 -- What an outcome with a list answers and leaves in the run for it, and the list of an s_group's names. Assumes nothing.
-use Rattle.std.specs.Prelude.{◌≡◌, refl, Bool, true, false, cond, List, ◌++◌, ℕ, ◌+◌, ◌-◌, ◌*◌, ◌≤◌, ◌<◌, leb, length, drop, take}
+use Rattle.std.specs.Prelude.{◌≡◌, refl, Bool, true, false, cond, List, ◌++◌, ℕ, ◌+◌, ◌-◌, ◌*◌, ◌≤◌, ◌<◌, leb, length, drop, take, Result, Ok, Err}
 use Rattle.std.proofs.Common.{sym, ap, ap₂, ◌∙◌, arith}
 use Rattle.std.proofs.lemmas.List.{length-map}
 use borrow.Author.Tests.{leb-true, leb-false, le-leb, lt-ltb, le-ltb}
@@ -8,8 +8,8 @@ use Rattle.entries.specs.Raw.{listed_name, list_answer, listed}
 use Rattle.entries.specs.NamespaceSound.{Sound}
 use Rattle.entries.specs.Storage.{length-words}
 use Rattle.entries.specs.NamespaceMeaning.{list_answer-words, listed-words}
-use Rattle.entries.specs.declared.Counted.{Counted}
-use Rattle.entries.specs.declared.Counted.TheVariants as counted-as
+use Rattle.entries.specs.declared.Refusal.{Refusal}
+use Rattle.entries.specs.declared.Refusal.TheVariants.{Unfit}
 use Rattle.semantics.specs.Sizes.{names_per_group, bodies_at}
 use Rattle.semantics.specs.State.{State}
 use Rattle.answers.specs.Answers.{answer_of}
@@ -50,36 +50,37 @@ module _ (size s : ℕ) (es : List Entry) (out : List ℕ) (sound : Sound names_
   many : length (name_words s es) ≡ length es
   many = length-map es (listed_name s)
 
-  pub names-listed : {k : ℕ} → list_answer (length es) (words names_per_group es) out ≡ counted-as.Of k
+  pub names-listed : {k : ℕ} → list_answer (length es) (words names_per_group es) out ≡ Ok k
       → Told rule out (answer_of (Listed k) Done) (listed (length es) s (words names_per_group es) out)
   names-listed {k} e = go (leb (length es) (length out)) refl (sym (list_answer-words names_per_group size es out sound) ∙ e)
     where
-      go : (b : Bool) → leb (length es) (length out) ≡ b → cond b (counted-as.Of (length es)) counted-as.Unfit ≡ counted-as.Of k
+      go : (b : Bool) → leb (length es) (length out) ≡ b → cond b (Ok (length es)) (Err Unfit) ≡ Ok k
           → Told rule out (answer_of (Listed k) Done) (listed (length es) s (words names_per_group es) out)
       go true h d =
+          let same : ◌≡◌ {A = Result ℕ Refusal} (Ok (length es)) (Ok k) = d in
           let n : length es ≡ k = cc in
           let room : length es ≤ length out = leb-true (length es) (length out) h in
           listed_fits (name_words s es) out (omega (arith, many, room)) (sym n ∙ sym many)
           (listed-words names_per_group size s es out sound room ∙ ap (λ (m : ℕ). name_words s es ++ drop m out) (sym many))
-      go false h d = let z : ◌≡◌ {A = ℕ} 0 1 = cc in absurd (omega arith)
+      go false h d = let z : ◌≡◌ {A = Result ℕ Refusal} (Err Unfit) (Ok k) = d in absurd (grind arith)
 
   not_listed : leb (length es) (length out) ≡ false → listed (length es) s (words names_per_group es) out ≡ out
   unfolding listed
   not_listed h = rw (length-words names_per_group es, le-leb (length es) names_per_group sound.room, h)
 
-  pub names-short : list_answer (length es) (words names_per_group es) out ≡ counted-as.Unfit
+  pub names-short : {r : Refusal} → list_answer (length es) (words names_per_group es) out ≡ Err r
       → Told rule out (answer_of Error RunShort) (listed (length es) s (words names_per_group es) out)
-  names-short e = go (leb (length es) (length out)) refl (sym (list_answer-words names_per_group size es out sound) ∙ e)
+  names-short {r} e = go (leb (length es) (length out)) refl (sym (list_answer-words names_per_group size es out sound) ∙ e)
     where
-      go : (b : Bool) → leb (length es) (length out) ≡ b → cond b (counted-as.Of (length es)) counted-as.Unfit ≡ counted-as.Unfit
+      go : (b : Bool) → leb (length es) (length out) ≡ b → cond b (Ok (length es)) (Err Unfit) ≡ Err r
           → Told rule out (answer_of Error RunShort) (listed (length es) s (words names_per_group es) out)
-      go true h d = let z : ◌≡◌ {A = ℕ} 0 1 = cc in absurd (omega arith)
+      go true h d = let z : ◌≡◌ {A = Result ℕ Refusal} (Ok (length es)) (Err r) = d in absurd (grind arith)
       go false h d = listed-short (name_words s es) out (omega (arith, many, leb-false (length es) (length out) h)) (not_listed h)
 
 -- ---- the names of the s_group at a place, whose words were lent
 
 module _ {st : State} {t : List ℕ} (l : Laid names_per_group st t) (k : ℕ) (w : Standing k st) (b e : ℕ) (eb : b ≡ bodies_at + names_per_group * k) (ee : e ≡ b + names_per_group)
-    (s count : ℕ) (ec : count ≡ counted k t) (out : List ℕ) (x : Counted) (o : List ℕ)
+    (s count : ℕ) (ec : count ≡ counted k t) (out : List ℕ) (x : Result ℕ Refusal) (o : List ℕ)
     (answers : x ≡ list_answer count (take (e - b) (drop b t)) out) (leaves : o ≡ listed count s (take (e - b) (drop b t)) out) where
   on-words : {A : Type 0} (f : ℕ → List ℕ → A) → f count (take (e - b) (drop b t)) ≡ f (length (names_at k st)) (words names_per_group (names_at k st))
   on-words f = ap₂ f (ec ∙ count-is l k w) (own_words l k w.below b e eb ee)
@@ -90,8 +91,8 @@ module _ {st : State} {t : List ℕ} (l : Laid names_per_group st t) (k : ℕ) (
   same : x ≡ list_answer (length (names_at k st)) (words names_per_group (names_at k st)) out
   same = answers ∙ on-words (λ n ws. list_answer n ws out)
 
-  pub list-told : {n : ℕ} → x ≡ counted-as.Of n → Told (names_in (length out) s (group_at st.groups k)) out (answer_of (Listed n) Done) o
+  pub list-told : {n : ℕ} → x ≡ Ok n → Told (names_in (length out) s (group_at st.groups k)) out (answer_of (Listed n) Done) o
   list-told d = rw left (names-listed st.size s (names_at k st) out w.regular.names_sound (sym same ∙ d))
 
-  pub list-short : x ≡ counted-as.Unfit → Told (names_in (length out) s (group_at st.groups k)) out (answer_of Error RunShort) o
+  pub list-short : {r : Refusal} → x ≡ Err r → Told (names_in (length out) s (group_at st.groups k)) out (answer_of Error RunShort) o
   list-short d = rw left (names-short st.size s (names_at k st) out w.regular.names_sound (sym same ∙ d))

@@ -36,7 +36,7 @@ pub record Settles (s : ℕ) (o : Outcome) (st : State) (a : Answer) (u : List �
 -- a step that is the outcome says so
 pub said : (t : List ℕ) → sound names_per_group t ≡ true → {room i : ℕ} {c : Command} {s : ℕ} {o : Outcome} {a : Answer} {u : List ℕ}
     → Goes room i c (here t) (settle s o (here t)) → Settles s o (here t) a u → Says room i c t a u
-said t ok {u = u} g w = let q = says t ok g u w.laid in (w.answer ∙ q.0, q.1)
+said t ok {u = u} g w = let q = says t ok g u w.laid in record { value = w.answer ∙ q.value; t_after = q.t_after }
 
 -- the names that the s_group had
 unchanged : {u : List ℕ} (k : ℕ) (st : State) (ns : List Entry) → ns ≡ names_at k st → Laid names_per_group (with_names k ns st) u → Laid names_per_group st u

@@ -19,23 +19,23 @@ use Rattle.place.specs.Sound.{here, base}
 
 -- the answer a and the table u are those of the call
 abbrev pub Says : ℕ → ℕ → Command → List ℕ → Answer → List ℕ → Type 0
-Says room i c t a u = (a ≡ (call room i c t).answer) × (u ≡ (call room i c t).table)
+Says room i c t a u = record { value : a ≡ (call room i c t).answer; t_after : u ≡ (call room i c t).table }
 
 -- the answer a is that of the call, and the run out has become o
 abbrev pub Lists : ℕ → Command → List ℕ → List ℕ → Answer → List ℕ → Type 0
-Lists i c t out a o = (a ≡ (call (length out) i c t).answer) × (o ≡ listed_over (call (length out) i c t).list out)
+Lists i c t out a o = record { value : a ≡ (call (length out) i c t).answer; out_after : o ≡ listed_over (call (length out) i c t).list out }
 
 -- ---- a run that is not sound
 
 pub says-unsound : (room i : ℕ) (c : Command) (t : List ℕ) → sound names_per_group t ≡ false → Says room i c t (answer_of Error (why t)) t
 says-unsound room i c t h =
     let e = call-unsound room i c t h in
-    (ap (λ (x : Call). x.answer) (sym e), ap (λ (x : Call). x.table) (sym e))
+    record { value = ap (λ (x : Call). x.answer) (sym e); t_after = ap (λ (x : Call). x.table) (sym e) }
 
 pub lists-unsound : (i : ℕ) (c : Command) (t out : List ℕ) → sound names_per_group t ≡ false → Lists i c t out (answer_of Error (why t)) out
 lists-unsound i c t out h =
     let e = call-unsound (length out) i c t h in
-    (ap (λ (x : Call). x.answer) (sym e), ap (λ (x : Call). listed_over x.list out) (sym e))
+    record { value = ap (λ (x : Call). x.answer) (sym e); out_after = ap (λ (x : Call). listed_over x.list out) (sym e) }
 
 -- ---- a sound table
 
@@ -48,7 +48,7 @@ module _ (t : List ℕ) (ok : sound names_per_group t ≡ true) where
     answers = ap (λ (x : Call). x.answer) (sym called)
 
     pub says : (u : List ℕ) → Laid names_per_group w.next u → Says room i c t w.answer u
-    says u l = (answers, words_of l ∙ ap (λ (x : Call). x.table) (sym called))
+    says u l = record { value = answers; t_after = words_of l ∙ ap (λ (x : Call). x.table) (sym called) }
 
   -- where the step changes nothing
   pub says-kept : {room i : ℕ} {c : Command} {v : Value} {r : Reason} → Goes room i c (here t) (reply v r (here t)) → Says room i c t (answer_of v r) t
@@ -56,4 +56,4 @@ module _ (t : List ℕ) (ok : sound names_per_group t ≡ true) where
 
   -- where it answers a list
   pub lists : {i : ℕ} {c : Command} {w : Result} (out : List ℕ) → Goes (length out) i c (here t) w → Lists i c t out w.answer (listed_over w.list out)
-  lists out g = (answers g, ap (λ (x : Call). listed_over x.list out) (sym (called g)))
+  lists out g = record { value = answers g; out_after = ap (λ (x : Call). listed_over x.list out) (sym (called g)) }

@@ -1,14 +1,15 @@
 -- A loop that changes a run of words a place at a time: what is left to do, done on the run as it stands, gives what the whole loop gives.
 -- Laws of a turn and of the end, for a walk over the members of a set and for a pass over all places. Assumes nothing.
-use Rattle.std.specs.Prelude.{◌≡◌, refl, Bool, true, false, not, ◌&&◌, cond, List, [], ◌∷◌, ℕ, zero, suc, ◌+◌, ◌^◌, ◌≤◌, ◌<◌, leb, length, get_or, set}
+use Rattle.std.specs.Prelude.{◌≡◌, refl, Bool, true, false, not, ◌&&◌, cond, List, [], ◌∷◌, ℕ, zero, suc, ◌+◌, ◌≤◌, ◌<◌, leb, length, get_or, set}
 use Rattle.std.proofs.Common.{sym, ap, ap₂, ◌∙◌, ⊎_elim, arith, length-set, eq-eqb, ne_eqb, le-leb}
 use Rattle.std.proofs.Math.Bool.{and-true}
 use Rattle.std.proofs.Math.Seq.{set_out}
 use Rattle.std.proofs.lemmas.Bool.{lt-leb}
-use Rattle.nodes.specs.Sets.{node_limit, has, without_node, lowest, rest}
+use Rattle.nodes.specs.Sets.{has, without_node}
+use Rattle.nodes.specs.Members.{Step}
 use Rattle.nodes.specs.Bools.{by_lt}
 use Rattle.nodes.proofs.SetLaws.{has-none, has-without_node}
-use Rattle.nodes.proofs.LowestNode.{lowest-has, rest-less}
+use Rattle.nodes.proofs.LowestNode.{lowest-has}
 use Rattle.semantics.specs.Steps.{mapi}
 
 -- ---- functions of a place and its word
@@ -66,28 +67,23 @@ module _ (f : ℕ → ℕ → ℕ) where
 
   -- in the walk over s that began on the run l₀, the run is now l and the members of left are to come
   pub record Walk (s : ℕ) (l₀ : List ℕ) (left : ℕ) (l : List ℕ) : Type 0 where
-    pub fits : left < 2 ^ node_limit
     pub long : length l ≡ length l₀
     pub goal : at_members left l ≡ at_members s l₀
 
-  module _ {s : ℕ} {l₀ : List ℕ} {left : ℕ} {l : List ℕ} (w : Walk s l₀ left l) (some : 0 < left) where
-    pub walk-less : {r : ℕ} → r ≡ rest left → r < left
-    walk-less b = omega (arith, rest-less left some w.fits)
-
-    -- the lowest member's word is stored
-    pub walk-store : {i r v : ℕ} {l₁ : List ℕ} → i ≡ lowest left → r ≡ rest left → v ≡ f i (get_or l i 0) → l₁ ≡ set l i v → Walk s l₀ r l₁
-    walk-store {i = i} {v = v} a b d e =
+  module _ {s : ℕ} {l₀ : List ℕ} {left : ℕ} {l : List ℕ} (w : Walk s l₀ left l) {i r : ℕ} (step : Step left i r) where
+    -- the member's word is stored
+    pub walk-store : {v : ℕ} {l₁ : List ℕ} → v ≡ f i (get_or l i 0) → l₁ ≡ set l i v → Walk s l₀ r l₁
+    walk-store {v = v} d e =
         record {
-          fits = omega (arith, walk-less b, w.fits);
           long = ap length e ∙ length-set l i v ∙ w.long;
           goal =
-              ap₂ at_members (b ∙ ap (without_node left) (sym a)) e
-              ∙ members-turn left i l v (ap (has left) a ∙ lowest-has left some w.fits) d ∙ w.goal;
+              ap₂ at_members (step.others ∙ ap (without_node left) (sym step.is)) e
+              ∙ members-turn left i l v (ap (has left) step.is ∙ lowest-has left step.some step.fits) d ∙ w.goal;
         }
 
-    -- the lowest member is past the end
-    pub walk-past : {i r : ℕ} {l₁ : List ℕ} → i ≡ lowest left → r ≡ rest left → length l ≤ i → l₁ ≡ l → Walk s l₀ r l₁
-    walk-past {i = i} a b h e = walk-store a b refl (e ∙ sym (set_out l i (f i (get_or l i 0)) h))
+    -- the member is past the end
+    pub walk-past : {l₁ : List ℕ} → length l ≤ i → l₁ ≡ l → Walk s l₀ r l₁
+    walk-past h e = walk-store refl (e ∙ sym (set_out l i (f i (get_or l i 0)) h))
 
   pub walk_end : {s left : ℕ} {l₀ l : List ℕ} → Walk s l₀ left l → left ≡ 0 → l ≡ at_members s l₀
   walk_end {l = l} w z = sym (members-none l) ∙ ap (λ (k : ℕ). at_members k l) (sym z) ∙ w.goal
@@ -98,9 +94,6 @@ module _ (f : ℕ → ℕ → ℕ) where
   -- f at the places from i on
   abbrev pub from : ℕ → List ℕ → List ℕ
   from i = mapi (due (leb i) f) 0
-
-  pub from_start : (l : List ℕ) → from 0 l ≡ mapi f 0 l
-  from_start l = mapi-ext (due (leb 0) f) f 0 l (λ j x h. rw (le-leb 0 j h))
 
   -- the word at i is stored: what is due begins behind it
   pub from-turn : (i : ℕ) (l : List ℕ) (v : ℕ) → v ≡ f i (get_or l i 0) → from (i + 1) (set l i v) ≡ from i l

@@ -5,6 +5,8 @@ ghost use Rattle.std.specs.Prelude.{◌≡◌, cond, ◌%◌, eqb};
 ghost use Rattle.nodes.specs.Sets.{has, diff};
 ghost use Rattle.semantics.specs.Steps.{mapi, interconnect, leave_free, one_free_group};
 
+use nodes::Members;
+
 // From so many nodes on, a pass over all words is quicker than a walk over the nodes.
 const MANY_NODES: u32 = 56;
 
@@ -12,14 +14,11 @@ const MANY_NODES: u32 = 56;
 pub fn interconnect(links: &mut [u64], set: u64)
     ensures { links.new ≡ interconnect set links.old }
 {
-    let mut left = set;
-    while left != 0 {
-        let node = nodes::lowest(left);
+    for node in Members(set) {
         let i = node as usize;
         if i < links.len() {
-            links[i] = links[i] | nodes::without(set, node);
+            links[i] |= nodes::without(set, node);
         }
-        left = nodes::rest(left);
     }
 }
 
@@ -27,13 +26,11 @@ pub fn interconnect(links: &mut [u64], set: u64)
 fn fill_walk(words: &mut [u64], set: u64, word: u64)
     ensures { words.new ≡ mapi (λ i w. cond (has set i) word w) 0 words.old }
 {
-    let mut left = set;
-    while left != 0 {
-        let i = nodes::lowest(left) as usize;
+    for node in Members(set) {
+        let i = node as usize;
         if i < words.len() {
             words[i] = word;
         }
-        left = nodes::rest(left);
     }
 }
 
@@ -49,11 +46,9 @@ fn fill_pass(words: &mut [u64], set: u64, word: u64)
     ensures { words.new ≡ mapi (λ i w. cond (has set i) word w) 0 words.old }
 {
     let mut left = set;
-    let mut i: usize = 0;
-    while i < words.len() {
-        words[i] = chosen(left, word, words[i]);
-        left = left / 2;
-        i += 1;
+    for old in words.iter_mut() {
+        *old = chosen(left, word, *old);
+        left /= 2;
     }
 }
 
@@ -72,10 +67,8 @@ fn fill(words: &mut [u64], set: u64, word: u64)
 fn take_out(words: &mut [u64], set: u64)
     ensures { words.new ≡ mapi (λ i w. diff w set) 0 words.old }
 {
-    let mut i: usize = 0;
-    while i < words.len() {
-        words[i] = nodes::diff(words[i], set);
-        i += 1;
+    for word in words.iter_mut() {
+        *word = nodes::diff(*word, set);
     }
 }
 

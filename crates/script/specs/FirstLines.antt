@@ -1,11 +1,10 @@
 -- Laws of lines: the first line from a place on, and those behind it. Assumes nothing.
-use Rattle.std.specs.Prelude.{◌≡◌, refl, Bool, true, false, cond, List, [], ◌∷◌, ℕ, suc, ◌≤◌, ◌<◌, ◌+◌, ltb, eqb, leb, length, take, drop}
+use Rattle.std.specs.Prelude.{◌≡◌, refl, Bool, true, false, cond, List, [], ◌∷◌, ℕ, suc, ◌≤◌, ◌<◌, ◌+◌, ltb, eqb, leb, length, take, drop, Option, None}
 use Rattle.std.proofs.Common.{arith, lt-ltb, le-ltb, le-leb, ltb-true, ltb-false, length-take, length-drop, drop_of_length-le, drop-drop}
 use Rattle.std.proofs.Math.Seq.{drop-length}
 use Rattle.text.specs.Text.{newline, find_in}
 use Rattle.line.specs.Requests.{request_of}
 use Rattle.line.specs.declared.Request.{Request}
-use Rattle.line.specs.declared.Request.TheVariants.{BadLine}
 use Rattle.turns.specs.Turns.{request_turn}
 use Rattle.script.specs.Scripts.{script_limit, Line, ended, cut, overlong, push, lines_of, one_line, lines_from, size_of, line_turn}
 
@@ -129,12 +128,12 @@ pub line_first : (script : List ℕ) (i : ℕ) → length script ≤ script_limi
 unfolding line_at
 line_first script i h = rw (le-leb (length script) script_limit h)
 
--- ---- what a line asks
+-- ---- what a line asks, where it asks something
 
-unfoldable pub asks : Line → Request
+unfoldable pub asks : Line → Option Request
 asks (ended l) = request_of l
-asks (cut l) = BadLine
-asks (overlong l) = BadLine
+asks (cut l) = None
+asks (overlong l) = None
 
 -- the first line is called as what it asks
 pub turn-first : (t s : List ℕ) → line_turn t (first_line s) ≡ request_turn t (asks (first_line s))

@@ -1,12 +1,12 @@
 -- What a run prints and leaves is what the commands print and leave, called one by one; runs go on where another stopped. Assumes nothing.
-use Rattle.std.specs.Prelude.{◌≡◌, refl, Bool, true, false, cond, List, [], ◌∷◌, ◌++◌, ℕ, ◌≤◌, ◌<◌, ◌+◌, ◌-◌, leb, length, take, drop}
+use Rattle.std.specs.Prelude.{◌≡◌, refl, Bool, true, false, cond, List, [], ◌∷◌, ◌++◌, ℕ, ◌≤◌, ◌<◌, ◌+◌, ◌-◌, leb, length, take, drop, Option, Some, None}
 use Rattle.std.proofs.Common.{sym, ap, ◌∙◌, ⊎_elim, append_assoc, append-nil, arith, leb-true, leb-false, le-leb, length-take-le}
 use Rattle.std.proofs.lemmas.Bool.{lt-leb}
 use borrow.Author.Rules.{part_to_end}
 use Rattle.nodes.specs.Bools.{by_lt}
 use Rattle.semantics.specs.Call.{call, opening}
 use Rattle.line.specs.declared.Request.{Request}
-use Rattle.line.specs.declared.Request.TheVariants.{Open, Command, BadLine}
+use Rattle.line.specs.declared.Request.TheVariants.{Open, Command}
 use Rattle.line.specs.Requests.{request_of}
 use Rattle.print.specs.Sheets.{Sheet, sheet, put}
 use Rattle.print.specs.Putting.{put_front, put-within}
@@ -18,14 +18,14 @@ use Rattle.script.specs.FirstLines.{first_line, line_at, lines_next, size_at, li
 
 -- ---- no line prints more than there is room for
 
-request-few : (t : List ℕ) (r : Request) → length (request_turn t r).text ≤ line_room
+request-few : (t : List ℕ) (r : Option Request) → length (request_turn t r).text ≤ line_room
 unfolding request_turn
-request-few t (Open N hidden) =
+request-few t (Some (Open N hidden)) =
     omega (arith, answer-few (opening N hidden t).list (opening N hidden t).answer, ap length (opening-bare N hidden t))
-request-few t (Command i c) =
+request-few t (Some (Command i c)) =
     let r = call list_room i c t in
     omega (arith, answer-few r.list r.answer, call_fits list_room i c t)
-request-few t BadLine = omega arith
+request-few t None = omega arith
 
 pub line-few : (t : List ℕ) (l : Line) → length (line_turn t l).text ≤ line_room
 unfolding line_turn
@@ -58,7 +58,7 @@ unfolding sheet
 run-line script i t out len h l = rw (lines_next script i h) (runs-line _ _ i t (sheet out len) l)
 
 -- the first line of what is left has been called and printed
-pub run-called : (script : List ℕ) (i : ℕ) (t out : List ℕ) (len size : ℕ) (q : Request) (u made : List ℕ) (len₂ : ℕ) → length script ≤ script_limit → i < length script → len + line_room ≤ length out
+pub run-called : (script : List ℕ) (i : ℕ) (t out : List ℕ) (len size : ℕ) (q : Option Request) (u made : List ℕ) (len₂ : ℕ) → length script ≤ script_limit → i < length script → len + line_room ≤ length out
     → size ≡ size_of (first_line (take (length script - i) (drop i script))) → q ≡ asks (first_line (take (length script - i) (drop i script)))
     → sheet made len₂ ≡ put (sheet out len) (request_turn t q).text → u ≡ (request_turn t q).table
     → runs (lines_from script i) i t (sheet out len) ≡ runs (lines_from script (i + size)) (i + size) u (sheet made len₂)

@@ -5,7 +5,7 @@ ghost use Rattle.std.specs.Prelude.{◌≡◌, List, ℕ, ◌<◌, length};
 ghost use Rattle.print.specs.Sheets.{sheet};
 ghost use Rattle.script.specs.Scripts.{script_limit, lines_of, lines_from, size_of, stop, runs};
 ghost use Rattle.script.specs.FirstLines.{first_line, asks};
-ghost use Rattle.script.specs.BadLines.{is_bad, first_bad};
+ghost use Rattle.script.specs.BadLines.{first_bad};
 
 use line::Request;
 
@@ -25,11 +25,11 @@ pub struct Ran {
     pub len: usize,
 }
 
-// The first line of a script: how many bytes it takes, and what it asks.
+// The first line of a script: how many bytes it takes, and what it asks, where it asks something.
 #[derive(Clone, Copy)]
 struct Head {
     size: usize,
-    request: Request,
+    request: Option<Request>,
 }
 
 // The first line of s.
@@ -41,12 +41,12 @@ fn first(s: &[u8]) -> Head
         let request = line::request_of(&s[..e]);
         return Head {
             size: e + 1,
-            request: request,
+            request,
         };
     }
     Head {
         size: s.len(),
-        request: Request::BadLine,
+        request: None,
     }
 }
 
@@ -64,7 +64,7 @@ fn refuse(script: &[u8], from: usize, out: &mut [u8]) -> Ran
     let len = print::put_bytes(out, 0, b"too-long\n");
     Ran {
         next: script.len(),
-        len: len,
+        len,
     }
 }
 
@@ -79,48 +79,32 @@ pub fn run(script: &[u8], from: usize, table: &mut [u64], out: &mut [u8]) -> Ran
     let mut words = [0u64; LIST_ROOM];
     let mut at = from;
     let mut len = 0;
+    // A place that goes on by a line, and is returned: an iterator over lines says where it stands no more plainly.
     while at < script.len() {
         if out.len() - len < LINE_ROOM {
-            return Ran { next: at, len: len };
+            return Ran { next: at, len };
         }
         let head = first(&script[at..]);
-        let size = head.size;
-        let request = head.request;
-        len = turns::request_turn(table, &mut words, out, len, request);
-        at += size;
+        len = turns::request_turn(table, &mut words, out, len, head.request);
+        at += head.size;
     }
-    Ran { next: at, len: len }
+    Ran { next: at, len }
 }
 
-// Whether a request is what a bad line asks.
-fn is_bad(request: Request) -> bool
-    ensures { result ≡ is_bad request }
-{
-    match request {
-        Request::Open(_, _) => false,
-        Request::Command {
-            caller: _,
-            command: _,
-        } => false,
-        Request::BadLine => true,
-    }
-}
-
-// The number of the first line of a script that is bad, from 1; 0 where none is.
-pub fn bad_line(script: &[u8]) -> usize
+// The number of the first line of a script that is bad, from 1.
+pub fn bad_line(script: &[u8]) -> Option<usize>
     ensures { result ≡ first_bad 1 (lines_of script.now) }
 {
     let mut from = 0;
     let mut number = 1;
+    // The same walk by `first` as in `run`, so that both mean the same lines.
     while from < script.len() {
         let head = first(&script[from..]);
-        let size = head.size;
-        let request = head.request;
-        if is_bad(request) {
-            return number;
+        if head.request.is_none() {
+            return Some(number);
         }
-        from += size;
+        from += head.size;
         number += 1;
     }
-    0
+    None
 }

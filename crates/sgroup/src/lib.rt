@@ -3,24 +3,12 @@
 
 ghost use Rattle.std.specs.Prelude.{◌≡◌, length};
 ghost use Rattle.commands.specs.declared.Command.TheVariants.{RegisteredNames, WhereisName, OwnNodes, OwnSGroups};
-ghost use Rattle.answers.specs.Answers.{answer_of};
-ghost use Rattle.semantics.specs.Call.{call, listed_over, why};
-ghost use Rattle.answers.specs.declared.Value.TheVariants.{Error};
+ghost use Rattle.semantics.specs.Call.{call, listed_over};
 
-use answers::{Answer, Reason};
+use answers::{Answer, refused};
 use commands::Command;
-use layout::TABLE_WORDS;
-use table::is_sound;
-
-// The refusal of a run that is no sound table: its length is wrong, or it is unsound.
-fn no_table(table: &[u64]) -> Answer
-    ensures { result ≡ answer_of Error (why table.now) }
-{
-    if table.len() == TABLE_WORDS {
-        return answers::refused(Reason::Unsound);
-    }
-    answers::refused(Reason::TableLength)
-}
+use sound_table::SoundTable;
+use table::check;
 
 // What the caller's command answers on the table; a list goes to the front of `out`.
 pub fn call(table: &mut [u64], out: &mut [u64], caller: u32, command: Command) -> Answer
@@ -28,10 +16,10 @@ pub fn call(table: &mut [u64], out: &mut [u64], caller: u32, command: Command) -
     ensures table_after { table.new ≡ (call (length out.old) caller command table.old).table }
     ensures out_after { out.new ≡ listed_over (call (length out.old) caller command table.old).list out.old }
 {
-    if is_sound(table) {
-        return step::step(table, out, caller, command);
+    if let Err(reason) = check(table) {
+        return refused(reason);
     }
-    no_table(table)
+    step::step(table, out, caller, command)
 }
 
 // ---- the commands that only read: a caller may hold a table that it cannot lend for writing, as a const one of C
@@ -41,30 +29,30 @@ pub fn registered_names(table: &[u64], caller: u32, s: u32, out: &mut [u64]) -> 
     ensures value { result ≡ (call (length out.old) caller (RegisteredNames s) table.now).answer }
     ensures out_after { out.new ≡ listed_over (call (length out.old) caller (RegisteredNames s) table.now).list out.old }
 {
-    if is_sound(table) {
-        return reading::registered_names(table, caller, s, out);
+    if let Err(reason) = check(table) {
+        return refused(reason);
     }
-    no_table(table)
+    reading::registered_names(SoundTable { words: table }, caller, s, out)
 }
 
 // What the caller finds under the name in the s_group.
 pub fn whereis_name(table: &[u64], caller: u32, s: u32, n: u32) -> Answer
     ensures { result ≡ (call 0 caller (WhereisName s n) table.now).answer }
 {
-    if is_sound(table) {
-        return reading::whereis_name(table, caller, s, n);
+    if let Err(reason) = check(table) {
+        return refused(reason);
     }
-    no_table(table)
+    reading::whereis_name(SoundTable { words: table }, caller, s, n)
 }
 
 // The nodes of the caller's groups, and how many they are.
 pub fn own_nodes(table: &[u64], caller: u32) -> Answer
     ensures { result ≡ (call 0 caller OwnNodes table.now).answer }
 {
-    if is_sound(table) {
-        return own::own_nodes(table, caller);
+    if let Err(reason) = check(table) {
+        return refused(reason);
     }
-    no_table(table)
+    own::own_nodes(SoundTable { words: table }, caller)
 }
 
 // The caller's s_groups, name and members of each, listed in the run.
@@ -72,8 +60,8 @@ pub fn own_s_groups(table: &[u64], caller: u32, out: &mut [u64]) -> Answer
     ensures value { result ≡ (call (length out.old) caller OwnSGroups table.now).answer }
     ensures out_after { out.new ≡ listed_over (call (length out.old) caller OwnSGroups table.now).list out.old }
 {
-    if is_sound(table) {
-        return own::own_s_groups(table, caller, out);
+    if let Err(reason) = check(table) {
+        return refused(reason);
     }
-    no_table(table)
+    own::own_s_groups(SoundTable { words: table }, caller, out)
 }

@@ -3,12 +3,11 @@
 
 mod with_index;
 
-ghost use Rattle.std.specs.Prelude.{◌≡◌, []};
+ghost use Rattle.std.specs.Prelude.{◌≡◌, [], Some};
 ghost use Rattle.semantics.specs.Sizes.{names_per_group};
 ghost use Rattle.commands.specs.declared.Command.TheVariants.{RegisterName, ReRegisterName, UnregisterName, RegisteredNames, WhereisName, WhereisNameAt, Send, SendName, SendAt, NewSGroup, AddNodes, RemoveNodes, DeleteSGroup, OwnNodes, OwnSGroups};
 ghost use Rattle.commands.specs.declared.Command.{Command};
 ghost use Rattle.forms.specs.Forms.{command_of};
-ghost use Rattle.forms.specs.declared.Formed.TheVariants.{Is};
 ghost use Rattle.semantics.specs.Call.{opening};
 ghost use Rattle.semantics.specs.Test.{sound};
 ghost use Rattle.answer_words.specs.AnswerWords.{told, commanded};
@@ -17,7 +16,6 @@ ghost use Rattle.launch.specs.Launch.{launch};
 ghost use Rattle.sgroup_c.specs.LaunchWords.{launch_told};
 
 use answer_words::put;
-use forms::Formed;
 
 // How many words an answer takes: its kind, two numbers, the number of its reason.
 const ANSWER_WORDS: usize = 4;
@@ -86,17 +84,17 @@ fn commanded(
     c: u32,
     set: u64,
 ) -> u32
-    ensures { (command : Command) → command_of number a b c set ≡ Is command → TellsTable (commanded caller command answer.old [] table.old) result answer.new table.new }
+    ensures { (command : Command) → command_of number a b c set ≡ Some command → TellsTable (commanded caller command answer.old [] table.old) result answer.new table.new }
 {
     if answer.len() < ANSWER_WORDS {
         return NO_ROOM;
     }
     match forms::command_of(number, a, b, c, set) {
-        Formed::Is(command) => {
+        Some(command) => {
             let mut none = [0u64; 0];
             put(answer, sgroup::call(table, &mut none, caller, command))
         }
-        Formed::Nothing => NO_ROOM,
+        None => NO_ROOM,
     }
 }
 

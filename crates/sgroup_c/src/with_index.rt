@@ -1,16 +1,14 @@
 // The calls with an index beside the table, with numbers for their answers.
-ghost use Rattle.std.specs.Prelude.{◌≡◌, [], length};
+ghost use Rattle.std.specs.Prelude.{◌≡◌, [], length, Some};
 ghost use Rattle.commands.specs.declared.Command.TheVariants.{RegisterName, ReRegisterName, UnregisterName, RegisteredNames, WhereisName, WhereisNameAt, Send, SendName, SendAt, NewSGroup, AddNodes, RemoveNodes, DeleteSGroup, OwnNodes, OwnSGroups};
 ghost use Rattle.commands.specs.declared.Command.{Command};
 ghost use Rattle.forms.specs.Forms.{command_of};
-ghost use Rattle.forms.specs.declared.Formed.TheVariants.{Is};
 ghost use Rattle.indexes.specs.IndexCalls.{opened, written, read};
 ghost use Rattle.answer_words.specs.AnswerWords.{told, told_indexed, commanded_indexed};
 ghost use Rattle.answer_words.specs.Told.{TellsIndexed};
 
 use crate::{ANSWER_WORDS, NO_ROOM};
 use answer_words::put;
-use forms::Formed;
 
 // Opens the table for n nodes, some of them hidden, and zeroes the index.
 #[unsafe(no_mangle)]
@@ -76,20 +74,20 @@ fn commanded(
     c: u32,
     set: u64,
 ) -> u32
-    ensures { (command : Command) → command_of number a b c set ≡ Is command → TellsIndexed (commanded_indexed caller command answer.old [] table.old index.old) result answer.new table.new index.new }
+    ensures { (command : Command) → command_of number a b c set ≡ Some command → TellsIndexed (commanded_indexed caller command answer.old [] table.old index.old) result answer.new table.new index.new }
 {
     if answer.len() < ANSWER_WORDS {
         return NO_ROOM;
     }
     match forms::command_of(number, a, b, c, set) {
-        Formed::Is(command) => {
+        Some(command) => {
             let mut none = [0u64; 0];
             put(
                 answer,
                 indexed::call(table, index, &mut none, caller, command),
             )
         }
-        Formed::Nothing => NO_ROOM,
+        None => NO_ROOM,
     }
 }
 

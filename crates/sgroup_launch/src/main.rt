@@ -11,7 +11,6 @@ use std::fs::File;
 use std::io::Write;
 use std::process::ExitCode;
 use std::{io, str};
-use text::{Half, Number};
 
 // How many bytes the longest book has: 64 atoms of nodes and 65,535 of groups, of 64 bytes each, with their newlines.
 const BOOK_LIMIT: usize = (64 + 65535) * 65;
@@ -50,20 +49,6 @@ const ARG_COUNT: usize = 6;
 // The system's number for bytes that are no text, which a name of a file has to be.
 const NO_TEXT: i32 = 84;
 
-// How many bytes of a text were read, or that it cannot be.
-#[derive(Drop)]
-enum Loaded {
-    Text(usize),
-    Nothing,
-}
-
-// The numbers of the arguments, or that one of them is none.
-#[derive(Drop)]
-enum Numbers {
-    Given(Asked),
-    Bad,
-}
-
 // Writes a line to standard error, behind the program's name.
 fn complain(rt: &impl Eprint, words: &str) {
     let _ = eprintln!(rt; "sgroup_launch: {words}");
@@ -83,75 +68,66 @@ fn complain_length(rt: &HostRuntime, path: &[u8], limit: usize) {
 }
 
 // The number that an argument is.
-fn number_arg(rt: &impl Env, i: usize) -> Number {
+fn number_arg(rt: &impl Env, i: usize) -> Option<u64> {
     let mut digits = [0u8; DIGITS];
-    match rt.arg(i, &mut digits) {
-        Ok(len) => text::numeral(&digits[..len]),
-        Err(_) => Number::Bad,
-    }
+    let len = rt.arg(i, &mut digits).ok()?;
+    text::numeral(&digits[..len])
 }
 
 // The numbers that the last three arguments are. It says which of them is none.
-fn asked_numbers(rt: &HostRuntime) -> Numbers {
-    let Half::Is(n) = text::narrow(number_arg(rt, SIZE_ARG)) else {
+fn asked_numbers(rt: &HostRuntime) -> Option<Asked> {
+    let Some(n) = text::narrow(number_arg(rt, SIZE_ARG)) else {
         complain(rt, "N is a decimal number of at most 32 bits");
-        return Numbers::Bad;
+        return None;
     };
-    let Number::Is(hidden) = number_arg(rt, HIDDEN_ARG) else {
+    let Some(hidden) = number_arg(rt, HIDDEN_ARG) else {
         complain(rt, "HIDDEN is a decimal number of at most 64 bits");
-        return Numbers::Bad;
+        return None;
     };
-    let Half::Is(start) = text::narrow(number_arg(rt, START_ARG)) else {
+    let Some(start) = text::narrow(number_arg(rt, START_ARG)) else {
         complain(rt, "START is a decimal number of at most 32 bits");
-        return Numbers::Bad;
+        return None;
     };
-    Numbers::Given(Asked {
-        n: n,
-        hidden: hidden,
-        start: start,
-    })
+    Some(Asked { n, hidden, start })
 }
 
-// Reads the file with this name, if it has no more bytes than the limit. It says why not.
-fn load(rt: &HostRuntime, path: &[u8], limit: usize, room: &mut [u8]) -> Loaded {
-    let name = match str::from_utf8(path) {
-        Ok(name) => name,
-        Err(_) => {
-            complain_of(rt, path, &io::Error::from_raw_os_error(NO_TEXT));
-            return Loaded::Nothing;
-        }
+// Reads the file with this name, if it has no more bytes than the limit: how many it has. It says why not.
+fn load(rt: &HostRuntime, path: &[u8], limit: usize, room: &mut [u8]) -> Option<usize> {
+    let Ok(name) = str::from_utf8(path) else {
+        complain_of(rt, path, &io::Error::from_raw_os_error(NO_TEXT));
+        return None;
     };
     let mut file = match File::open(rt, name) {
         Ok(file) => file,
         Err(error) => {
             complain_of(rt, path, &error);
-            return Loaded::Nothing;
+            return None;
         }
     };
-    let input = loading::read_all(&mut file, room);
-    if let Some(error) = input.failed {
-        complain_of(rt, path, &error);
-        return Loaded::Nothing;
+    match loading::read_all(&mut file, room) {
+        Ok(len) if len <= limit => Some(len),
+        Ok(_) => {
+            complain_length(rt, path, limit);
+            None
+        }
+        Err(failed) => {
+            complain_of(rt, path, &failed.error);
+            None
+        }
     }
-    let len = input.len;
-    if limit < len {
-        complain_length(rt, path, limit);
-        return Loaded::Nothing;
-    }
-    Loaded::Text(len)
 }
 
-// Writes the name of a file, which is an argument, into a run.
-fn name_arg(rt: &HostRuntime, i: usize, name: &mut [u8]) -> Loaded {
+// Writes the name of a file, which is an argument, into a run: how many bytes it has. It says why not.
+fn name_arg(rt: &HostRuntime, i: usize, name: &mut [u8]) -> Option<usize> {
     match rt.arg(i, name) {
-        Ok(len) => Loaded::Text(len),
+        Ok(len) => Some(len),
         Err(FillError::TooLong) => {
             complain(rt, "the name of a file: File name too long");
-            Loaded::Nothing
+            None
         }
         Err(FillError::NotPresent) => {
             complain(rt, "the name of a file: Invalid argument");
-            Loaded::Nothing
+            None
         }
     }
 }
@@ -196,7 +172,7 @@ fn put_report(
     )
 }
 
-// Reads the book and the file of these names into their rooms, launches, and writes out what is said of it.
+// Reads the book and the file of these names into their rooms, launches, and writes out what is said of it; nothing where it said why a file cannot be read.
 fn run_named(
     rt: &HostRuntime,
     asked: Asked,
@@ -205,13 +181,9 @@ fn run_named(
     book: &mut [u8],
     room: &mut [u8],
     out: &mut [u8],
-) -> ExitCode {
-    let Loaded::Text(book_len) = load(rt, book_name, BOOK_LIMIT, book) else {
-        return ExitCode::SUCCESS;
-    };
-    let Loaded::Text(len) = load(rt, name, FILE_LIMIT, room) else {
-        return ExitCode::SUCCESS;
-    };
+) -> Option<ExitCode> {
+    let book_len = load(rt, book_name, BOOK_LIMIT, book)?;
+    let len = load(rt, name, FILE_LIMIT, room)?;
     let said = put_report(
         out,
         asked,
@@ -222,32 +194,26 @@ fn run_named(
         len,
     );
     if let Err(error) = rt.stdout().write_all(front(out, said)) {
-        return loading::fail_to_write(
+        return Some(loading::fail_to_write(
             &mut rt.stderr(),
             b"sgroup_launch: the output cannot be written",
             &error,
-        );
+        ));
     }
-    ExitCode::SUCCESS
+    Some(ExitCode::SUCCESS)
 }
 
-// Reads the arguments, then the texts into their rooms.
-fn run(rt: &HostRuntime, book: &mut [u8], room: &mut [u8], out: &mut [u8]) -> ExitCode {
+// Reads the arguments, then the texts into their rooms; nothing where it said what is wrong with an argument.
+fn run(rt: &HostRuntime, book: &mut [u8], room: &mut [u8], out: &mut [u8]) -> Option<ExitCode> {
     if !loading::is_given(rt, START_ARG) || loading::is_given(rt, ARG_COUNT) {
         complain(rt, "usage: sgroup_launch BOOK FILE N HIDDEN START");
-        return ExitCode::SUCCESS;
+        return None;
     }
-    let Numbers::Given(asked) = asked_numbers(rt) else {
-        return ExitCode::SUCCESS;
-    };
+    let asked = asked_numbers(rt)?;
     let mut book_name = [0u8; NAME_ROOM];
-    let Loaded::Text(b) = name_arg(rt, BOOK_ARG, &mut book_name) else {
-        return ExitCode::SUCCESS;
-    };
+    let b = name_arg(rt, BOOK_ARG, &mut book_name)?;
     let mut name = [0u8; NAME_ROOM];
-    let Loaded::Text(f) = name_arg(rt, FILE_ARG, &mut name) else {
-        return ExitCode::SUCCESS;
-    };
+    let f = name_arg(rt, FILE_ARG, &mut name)?;
     run_named(
         rt,
         asked,
@@ -264,5 +230,5 @@ fn main(rt: HostRuntime) -> ExitCode {
     let mut book = [0u8; BOOK_ROOM];
     let mut file = [0u8; FILE_ROOM];
     let mut out = [0u8; OUTPUT_ROOM];
-    run(&rt, &mut book, &mut file, &mut out)
+    run(&rt, &mut book, &mut file, &mut out).unwrap_or(ExitCode::SUCCESS)
 }

@@ -13,23 +13,23 @@ const OUTPUT_ROOM: usize = 4096;
 // Runs the script of standard input on a table of zeros, piece by piece, and writes out what each piece prints.
 fn main(rt: HostRuntime) -> ExitCode {
     let mut text = [0u8; INPUT_ROOM];
-    let input = loading::read_all(&mut rt.stdin(), &mut text);
-    let n = input.len;
-    if let Some(error) = input.failed {
-        loading::fail(
-            &mut rt.stderr(),
-            b"sgroup_run: the script cannot be read",
-            &error,
-        );
-        return ExitCode::SUCCESS;
-    }
+    let n = match loading::read_all(&mut rt.stdin(), &mut text) {
+        Ok(n) => n,
+        Err(failed) => {
+            loading::fail(
+                &mut rt.stderr(),
+                b"sgroup_run: the script cannot be read",
+                &failed.error,
+            );
+            return ExitCode::SUCCESS;
+        }
+    };
     let mut table = [0u64; layout::TABLE_WORDS];
     let mut out = [0u8; OUTPUT_ROOM];
     let mut at = 0;
     while at < n {
         let ran = script::run(&text[..n], at, &mut table, &mut out);
-        let len = ran.len;
-        if let Err(error) = rt.stdout().write_all(&out[..len]) {
+        if let Err(error) = rt.stdout().write_all(&out[..ran.len]) {
             return loading::fail_to_write(
                 &mut rt.stderr(),
                 b"sgroup_run: the output cannot be written",

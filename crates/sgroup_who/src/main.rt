@@ -9,7 +9,6 @@ ghost use Rattle.sgroup_who.specs.Report.{told, report};
 use std::env::Env;
 use std::io::Write;
 use std::process::ExitCode;
-use text::Half;
 
 // The longest script, and one byte more by which a longer one is known.
 const INPUT_ROOM: usize = script::SCRIPT_LIMIT + 1;
@@ -44,15 +43,13 @@ fn complain_line(rt: &impl Eprint, number: usize) {
 }
 
 // The pid that the argument is.
-fn pid_arg(rt: &impl Env) -> Half {
+fn pid_arg(rt: &impl Env) -> Option<u32> {
     if !loading::is_given(rt, PID_ARG) || loading::is_given(rt, ARG_COUNT) {
-        return Half::Bad;
+        return None;
     }
     let mut digits = [0u8; DIGITS];
-    match rt.arg(PID_ARG, &mut digits) {
-        Ok(len) => text::narrow(text::numeral(&digits[..len])),
-        Err(_) => Half::Bad,
-    }
+    let len = rt.arg(PID_ARG, &mut digits).ok()?;
+    text::narrow(text::numeral(&digits[..len]))
 }
 
 // Runs a script on the table.
@@ -95,9 +92,8 @@ fn say(rt: &HostRuntime, out: &mut [u8], p: u32, script: &[u8]) -> ExitCode {
         complain(rt, "the script is too long: it has more than 65536 bytes");
         return ExitCode::SUCCESS;
     }
-    let bad = script::bad_line(script);
-    if bad != 0 {
-        complain_line(rt, bad);
+    if let Some(number) = script::bad_line(script) {
+        complain_line(rt, number);
         return ExitCode::SUCCESS;
     }
     let len = put_report(out, p, script);
@@ -113,24 +109,24 @@ fn say(rt: &HostRuntime, out: &mut [u8], p: u32, script: &[u8]) -> ExitCode {
 
 // Reads the argument, and the script of standard input into its room.
 fn run(rt: &HostRuntime, text: &mut [u8], out: &mut [u8]) -> ExitCode {
-    let Half::Is(p) = pid_arg(rt) else {
+    let Some(p) = pid_arg(rt) else {
         complain(
             rt,
             "usage: sgroup_who PID, a decimal number of at most 32 bits, with the script on standard input",
         );
         return ExitCode::SUCCESS;
     };
-    let input = loading::read_all(&mut rt.stdin(), text);
-    if let Some(error) = input.failed {
-        loading::fail(
-            &mut rt.stderr(),
-            b"sgroup_who: the script cannot be read",
-            &error,
-        );
-        return ExitCode::SUCCESS;
+    match loading::read_all(&mut rt.stdin(), text) {
+        Ok(n) => say(rt, out, p, &text[..n]),
+        Err(failed) => {
+            loading::fail(
+                &mut rt.stderr(),
+                b"sgroup_who: the script cannot be read",
+                &failed.error,
+            );
+            ExitCode::SUCCESS
+        }
     }
-    let n = input.len;
-    say(rt, out, p, &text[..n])
 }
 
 // Lends the room for the script and what is said.

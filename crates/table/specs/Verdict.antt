@@ -1,5 +1,5 @@
 -- What the parts of the test say of the whole. Assumes nothing.
-use Rattle.std.specs.Prelude.{◌≡◌, refl, ◌≢◌, Bool, true, false, ◌&&◌, cond, List, ℕ, ◌≤◌, min, length}
+use Rattle.std.specs.Prelude.{◌≡◌, ◌≢◌, true, false, List, ℕ, ◌≤◌, min, length}
 use Rattle.std.proofs.Common.{sym, ap, ◌∙◌, true≢false, arith}
 use Rattle.std.proofs.Math.Bool.{and-eq-true_iff}
 use Rattle.nodes.specs.Sets.{node_limit, roster, diff, word_at}
@@ -9,11 +9,9 @@ use Rattle.semantics.specs.Soundness.{size_of, hidden_of, count_of}
 use Rattle.semantics.specs.Test.{sound}
 use Rattle.semantics.proofs.Agree.{sound-iff}
 use Rattle.semantics.specs.Truth.{unless}
-use Rattle.free_test.specs.WireTests.{all_below, free_sound}
+use Rattle.free_test.specs.WireTests.{free_sound}
 use Rattle.free_test.specs.Below.{tests}
-use Rattle.groups_test.specs.GroupTests.{contents_right, members_right, links_part, free_part, head_right, grouped_in, grouped_of, loose_in, rest_right, parts_right}
-use Rattle.groups_test.specs.declared.Grouped.{Grouped}
-use Rattle.groups_test.specs.declared.Grouped.TheVariants as grouped
+use Rattle.groups_test.specs.GroupTests.{links_part, free_part, head_right, grouped_in, loose_in, parts_right}
 use Rattle.table.specs.TestMeaning.{loose_of, Right, right-sound, sound-right}
 
 -- what a right head says of the sizes
@@ -23,21 +21,6 @@ pub record Small (t : List ℕ) : Type 0 where
 
 pub small : (t : List ℕ) → head_right (size_of t) (hidden_of t) (count_of t) (word_at t 3) ≡ true → Small t
 small t e = let h = simp tests at e in record { size = h.1.0; count = h.1.1.0 }
-
--- ---- contents and members first
-
--- what the rest comes to, after contents and members
-abbrev pub after : ℕ → List ℕ → ℕ → ℕ → Grouped → Bool
-after cap t G n (grouped.Nodes in_group) = rest_right cap t G n in_group
-after cap t G n grouped.Wrong = false
-
--- which is what all parts come to
-pub parts-after : (cap : ℕ) (t : List ℕ) (G n : ℕ) (found : Grouped) → found ≡ grouped_of cap t G n → after cap t G n found ≡ parts_right cap t G n
-parts-after cap t G n found e = ap (after cap t G n) e ∙ go (all_below G (contents_right cap t) && all_below G (members_right t n))
-  where
-    go : (test : Bool) → after cap t G n (cond test (grouped.Nodes (grouped_in t G)) grouped.Wrong) ≡ test && rest_right cap t G n (grouped_in t G)
-    go true = refl
-    go false = refl
 
 -- ---- all parts
 

@@ -1,18 +1,19 @@
 // Whether a run of words is a sound table.
 #![tactic(auto)]
 
-ghost use Rattle.std.specs.Prelude.{◌≡◌, ◌+◌, ◌*◌, ◌≤◌, ◌<◌, length};
+ghost use Rattle.std.specs.Prelude.{◌≡◌, ◌+◌, ◌*◌, ◌≤◌, ◌<◌, cond, Ok, Err, length};
 ghost use Rattle.entries.specs.Entries.{half_word};
 ghost use Rattle.semantics.specs.Sizes.{group_limit, names_per_group, bodies_at, table_words};
 ghost use Rattle.semantics.specs.Test.{sound};
+ghost use Rattle.semantics.specs.Call.{why};
 ghost use Rattle.free_test.specs.WireTests.{all_zero};
 ghost use Rattle.groups_test.specs.GroupTests.{part, head_right, unused_zero, rest_right, parts_right};
 
+use answers::Reason;
 use free_test::{all_zero, free_sound};
-use groups_test::Grouped;
 use layout::{
     BODIES_AT, CONTENTS_AT, COUNT_AT, FREE_AT, GROUP_LIMIT, HIDDEN_AT, LINKS_AT, MEMBERS_AT,
-    NAMES_PER_GROUP, NODE_LIMIT, SIZE_AT, SPARE_AT,
+    NAMES_PER_GROUP, NODE_LIMIT, SIZE_AT, SPARE_AT, TABLE_WORDS,
 };
 use links_test::links_sound;
 
@@ -36,11 +37,9 @@ fn bodies_zero(t: &[u64], g: usize, cap: usize) -> bool
     ensures { result ≡ all_zero (part t.now (bodies_at + cap * g) (table_words cap)) }
 {
     let mut right = true;
-    let mut i = g;
-    while i < GROUP_LIMIT {
+    for i in g..GROUP_LIMIT {
         let start = BODIES_AT + cap * i;
-        right = right & all_zero(&t[start..start + cap]);
-        i += 1;
+        right &= all_zero(&t[start..start + cap]);
     }
     right
 }
@@ -76,8 +75,8 @@ fn parts_sound(t: &[u64], g: usize, n: u32, cap: usize) -> bool
     ensures { result ≡ parts_right cap t.now g n }
 {
     match groups_test::grouped_nodes(t, g, n, cap) {
-        Grouped::Nodes(grouped) => rest_sound(t, g, n, cap, grouped),
-        Grouped::Wrong => false,
+        Some(grouped) => rest_sound(t, g, n, cap, grouped),
+        None => false,
     }
 }
 
@@ -102,4 +101,17 @@ pub fn is_sound(t: &[u64]) -> bool
     ensures { result ≡ sound names_per_group t.now }
 {
     sound_for(&t[0..], NAMES_PER_GROUP)
+}
+
+// That the run is a sound table; else the reason: its length, which is tested first, or that it is unsound.
+pub fn check(table: &[u64]) -> Result<(), Reason>
+    ensures { result ≡ cond (sound names_per_group table.now) (Ok tt) (Err (why table.now)) }
+{
+    if is_sound(table) {
+        return Ok(());
+    }
+    if table.len() == TABLE_WORDS {
+        return Err(Reason::Unsound);
+    }
+    Err(Reason::TableLength)
 }

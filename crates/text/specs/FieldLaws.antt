@@ -1,6 +1,9 @@
 -- Laws of `find_in` and `fields`: the first field, and those behind it. Assumes nothing.
 use Rattle.std.specs.Prelude.{◌≡◌, refl, Bool, true, false, cond, List, [], ◌∷◌, ℕ, suc, ◌≤◌, ◌<◌, eqb, length, take, drop}
+use Rattle.std.specs.List.{slice_split, onto_first, position_or_len}
+use Rattle.std.proofs.lemmas.List.Recursion.{is_position_or_len}
 use Rattle.std.proofs.Common.{le_refl, arith}
+use Rattle.std.proofs.Math.Numerals.{one-add}
 use Rattle.text.specs.Text.{space, find_in, in_front, fields}
 
 -- a byte is found within the list
@@ -57,3 +60,21 @@ fields-longer x xs = go (eqb x space) (fields xs) (fields-some xs)
     go true fs h = refl
     go false [] h = absurd (omega arith)
     go false (f ∷ fs) h = refl
+
+-- the fields are the parts of a line that is cut at each space
+pub fields-split : (s : List ℕ) → fields s ≡ slice_split (λ b. eqb b space) s
+unfolding fields
+fields-split [] = refl
+fields-split (x ∷ xs) = go (eqb x space) (fields xs) (slice_split (λ b. eqb b space) xs) (fields-split xs)
+  where
+    put : (x : ℕ) (fs : List (List ℕ)) → in_front x fs ≡ onto_first x fs
+    put x [] = refl
+    put x (f ∷ fs) = refl
+
+    go : (t : Bool) (fs gs : List (List ℕ)) → fs ≡ gs → cond t ([] ∷ fs) (in_front x fs) ≡ cond t ([] ∷ gs) (onto_first x gs)
+    go t fs gs e = rw (e, put)
+
+-- a byte is found where it is the first to pass the test
+pub find-position : (b : ℕ) (s : List ℕ) → find_in b s ≡ position_or_len (λ x. eqb x b) s
+unfolding find_in
+find-position b s = is_position_or_len (find_in b) (λ x. eqb x b) refl (λ x xs. rw one-add) s

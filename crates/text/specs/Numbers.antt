@@ -1,9 +1,5 @@
 -- The number that bytes spell in decimal, and its width. Assumes nothing.
-use Rattle.std.specs.Prelude.{Bool, true, false, not, ◌&&◌, cond, List, [], ◌∷◌, ℕ, ◌+◌, ◌-◌, ◌*◌, ◌^◌, eqb, leb, ltb}
-use Rattle.text.specs.declared.Number.{Number}
-use Rattle.text.specs.declared.Number.TheVariants as Number
-use Rattle.text.specs.declared.Half.{Half}
-use Rattle.text.specs.declared.Half.TheVariants as Half
+use Rattle.std.specs.Prelude.{Bool, true, false, not, ◌&&◌, cond, List, [], ◌∷◌, ℕ, ◌+◌, ◌-◌, ◌*◌, ◌^◌, eqb, leb, ltb, Option, Some, None}
 
 -- the digit 0 in ASCII
 abbrev pub digit_0 : ℕ
@@ -42,10 +38,10 @@ unfoldable pub is_numeral : List ℕ → Bool
 is_numeral s = plain s && (all_digits s && ltb (value 0 s) word_limit)
 
 -- the number of 64 bits that bytes spell
-unfoldable pub numeral : List ℕ → Number
-numeral s = cond (is_numeral s) (Number.Is (value 0 s)) Number.Bad
+unfoldable pub numeral : List ℕ → Option ℕ
+numeral s = cond (is_numeral s) (Some (value 0 s)) None
 
 -- a number that fits 32 bits
-abbrev pub narrow : Number → Half
-narrow (Number.Is v) = cond (ltb v half_limit) (Half.Is v) Half.Bad
-narrow Number.Bad = Half.Bad
+abbrev pub narrow : Option ℕ → Option ℕ
+narrow (Some v) = cond (ltb v half_limit) (Some v) None
+narrow None = None

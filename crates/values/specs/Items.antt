@@ -1,5 +1,5 @@
 -- Items between brackets, turn by turn, up to the next bracket. Assumes nothing.
-use Rattle.std.specs.Prelude.{◌≡◌, refl, Bool, true, false, List, ◌∷◌, ℕ, ◌+◌, ◌-◌, ◌≤◌, ◌<◌, length, get_or}
+use Rattle.std.specs.Prelude.{Result, Ok, Err, ◌≡◌, refl, Bool, true, false, List, ◌∷◌, ℕ, ◌+◌, ◌-◌, ◌≤◌, ◌<◌, length, get_or}
 use Rattle.std.proofs.Common.{sym, ap, ◌∙◌, arith, le_refl, lt-ltb, le-ltb, eq-eqb, ne_eqb}
 use Rattle.tokens.specs.Bytes.{white}
 use Rattle.tokens.specs.Tokens.{behind, token_at}
@@ -10,34 +10,28 @@ use Rattle.grammar.specs.Steps.{from, from_end}
 use Rattle.values.specs.Skipping.{IsBeyond, resumed, stops_at, skip_of_number, skip_of, phase_of, NextItem, bracket_of, ToBracket}
 use Rattle.values.specs.Plain.{plain-goes_on, plain-beyond}
 use Rattle.values.specs.Brackets.{opening_of, white-value, white-first, white-after, opening, no_value, closed, another, no-separator, begun-with}
-use Rattle.values.specs.declared.Skip.{Skip}
-use Rattle.values.specs.declared.Skip.TheVariants.{Behind, Stop}
 
 -- ---- answers as numbers
 
 -- a place behind what is skipped
-pub number_behind : (r : ℕ) → r < stops_at → skip_of_number r ≡ Behind r
+pub number_behind : (r : ℕ) → r < stops_at → skip_of_number r ≡ Ok r
 unfolding skip_of_number
 number_behind r l = rw (lt-ltb r stops_at l)
 
 -- a number that stands for a stop
-pub number-stops : (r : ℕ) → stops_at ≤ r → skip_of_number r ≡ Stop (r - stops_at)
+pub number-stops : (r : ℕ) → stops_at ≤ r → skip_of_number r ≡ Err (r - stops_at)
 unfolding skip_of_number
 number-stops r l = rw (le-ltb r stops_at l)
-
--- the number for a stop at a place
-pub number_of-stop : (p : ℕ) → skip_of_number (stops_at + p) ≡ Stop p
-number_of-stop p = number-stops (stops_at + p) (omega arith) ∙ ap Stop (omega arith)
 
 -- ---- an atom or a number
 
 module _ (t : List ℕ) (short : length t < stops_at) (at : ℕ) (l : at < length t) where
   -- it ends at n
-  pub plain-behind : (n : ℕ) → skip_of (token_at t at) ≡ Behind n → skip_of_number n ≡ skip_of (token_at t at)
+  pub plain-behind : (n : ℕ) → skip_of (token_at t at) ≡ Ok n → skip_of_number n ≡ skip_of (token_at t at)
   plain-behind n e = let g = rw e at (plain-beyond t at l) in number_behind n (omega (arith, g.1)) ∙ sym e
 
   -- where there is neither, a number stands for the stop
-  pub plain-stops : (p : ℕ) → skip_of (token_at t at) ≡ Stop p → p < stops_at
+  pub plain-stops : (p : ℕ) → skip_of (token_at t at) ≡ Err p → p < stops_at
   plain-stops p e = let g = rw e at (plain-beyond t at l) in omega (arith, g.1)
 
 -- ---- the next item
@@ -59,7 +53,7 @@ module _ (t : List ℕ) (at i : ℕ) (here : i ≡ behind White t at) where
     arrive false h due = white-after t h due at ∙ ap (from h due after t) (sym here)
 
     -- the text ends there
-    pub next-cut : at ≤ length t → length t ≤ i → NextItem c t at opened (Stop i)
+    pub next-cut : at ≤ length t → length t ≤ i → NextItem c t at opened (Err i)
     next-cut w l = record { goes_on = λ k q h due. arrive opened h (k ∷ due) ∙ from_end t h (k ∷ due) (phase_of opened) i l; ahead = (omega arith, white-within w) }
 
     module _ (l : i < length t) where
@@ -82,7 +76,7 @@ module _ (t : List ℕ) (at i : ℕ) (here : i ≡ behind White t at) where
 
         module _ (n : get_or t i 0 ≡ c → ⊥) where
           -- no comma stands there
-          pub next-none : (get_or t i 0 ≡ ascii comma → ⊥) → NextItem c t at opened (Stop i)
+          pub next-none : (get_or t i 0 ≡ ascii comma → ⊥) → NextItem c t at opened (Err i)
           next-none e =
               rw f
               (record {
@@ -100,12 +94,12 @@ module _ (t : List ℕ) (at i : ℕ) (here : i ≡ behind White t at) where
                 ∙ white-value t h (k ∷ due) (i + 1) ∙ ap (from h (k ∷ due) value t) (sym there))
 
             -- the text ends there
-            pub next-missing : m ≤ length t → length t ≤ m → NextItem c t at opened (Stop m)
+            pub next-missing : m ≤ length t → length t ≤ m → NextItem c t at opened (Err m)
             next-missing w r = record { goes_on = λ k q h due. come k q h due ∙ from_end t h (k ∷ due) value m r; ahead = (omega arith, w) }
 
             module _ (r : m < length t) (lit : white (get_or t m 0) ≡ false) where
               -- the closing bracket stands there
-              pub next-closes : get_or t m 0 ≡ c → NextItem c t at opened (Stop m)
+              pub next-closes : get_or t m 0 ≡ c → NextItem c t at opened (Err m)
               next-closes z = record { goes_on = λ k q h due. come k q h due ∙ no_value t m r lit h k (k ∷ due) (z ∙ q); ahead = (omega arith, omega arith) }
 
               -- an item begins there
@@ -145,7 +139,7 @@ module _ (c : ℕ) (t : List ℕ) (at : ℕ) (opened : Bool) (j : ℕ) (fresh : 
   -- i is the place of what follows
   module _ (l : i < stops_at) where
     -- it is the closing bracket, or an item
-    follows : NextItem c t j fresh (Behind i)
+    follows : NextItem c t j fresh (Ok i)
     follows = rw (number_behind i l) at N
 
     -- a byte stands there
@@ -153,7 +147,7 @@ module _ (c : ℕ) (t : List ℕ) (at : ℕ) (opened : Bool) (j : ℕ) (fresh : 
     along-inside = follows.ahead.1
 
     -- the bracket there is passed
-    ahead-by-one : IsBeyond at t (Behind (i + 1))
+    ahead-by-one : IsBeyond at t (Ok (i + 1))
     ahead-by-one = (omega (arith, A.ahead, follows.ahead.0), omega (arith, along-inside))
 
     -- it is the closing bracket
@@ -186,14 +180,14 @@ module _ (c : ℕ) (t : List ℕ) (at : ℕ) (opened : Bool) (j : ℕ) (fresh : 
       -- it is an atom or a number
       module _ (a : get_or t i 0 ≡ ascii open_list → ⊥) (b : get_or t i 0 ≡ ascii open_tuple → ⊥) (r : ℕ) (S : skip_of_number r ≡ skip_of (token_at t i)) where
         -- the text goes on behind it
-        skips : (s : Skip) → skip_of_number r ≡ s → (k : Bracket) → c ≡ closing k → (h : Here) (due : List Bracket) → from h (k ∷ due) (phase_of opened) t at ≡ resumed h (k ∷ due) t s
+        skips : (s : Result ℕ ℕ) → skip_of_number r ≡ s → (k : Bracket) → c ≡ closing k → (h : Here) (due : List Bracket) → from h (k ∷ due) (phase_of opened) t at ≡ resumed h (k ∷ due) t s
         skips s d k q h due =
             begins-there k q h due
             ∙ plain-goes_on h (k ∷ due) t i along-inside follows.ahead.2 a b
             ∙ ap (resumed h (k ∷ due) t) (sym S ∙ d)
 
         -- that is further on
-        passes : (s : Skip) → skip_of_number r ≡ s → IsBeyond i t s
+        passes : (s : Result ℕ ℕ) → skip_of_number r ≡ s → IsBeyond i t s
         passes s d = rw (sym d ∙ S) (plain-beyond t i along-inside)
 
         -- there is neither

@@ -1,7 +1,7 @@
 -- Atoms and numbers as values: where one stands, the text goes on behind it, and where none stands, it is refused. Assumes nothing.
 use Rattle.std.proofs.Math.Path.{◌≡◌, refl}
 use Rattle.std.proofs.Common.{sym, ap, ◌∙◌, le_refl, add-one, arith, drop-cons, drop-drop}
-use Rattle.std.specs.Prelude.{Bool, ◌&&◌, ℕ, suc, ◌+◌, ◌-◌, ◌≤◌, ◌<◌, ltb, length, drop, take, get_or}
+use Rattle.std.specs.Prelude.{Ok, Err, Bool, ◌&&◌, ℕ, suc, ◌+◌, ◌-◌, ◌≤◌, ◌<◌, ltb, length, drop, take, get_or}
 use Rattle.std.proofs.Math.Bool.{true, false, not, cond}
 use mathlib.Core.List.{List, [], ◌∷◌, ◌++◌}
 use borrow.Author.Tests.{lt-ltb, ltb-true, ltb-false, ne_eqb}
@@ -10,9 +10,9 @@ use Rattle.tokens.specs.Bytes.{has, white, small, digit, quote, name_byte}
 use Rattle.tokens.specs.Runs.{run_of}
 use Rattle.tokens.specs.Reserved.{is_reserved}
 use Rattle.tokens.specs.Within.{run_none, run-within, run-stops}
-use Rattle.tokens.specs.Tokens.{behind, plain_to, plain_at, quoted_to, quoted_at, token_at}
+use Rattle.tokens.specs.Tokens.{behind, atom_from, plain_to, plain_at, quoted_to, quoted_at, token_at}
 use Rattle.tokens.specs.declared.Class.TheVariants.{Name, Digit, Quoted}
-use Rattle.tokens.specs.declared.Token.TheVariants.{Atom, Number, Neither}
+use Rattle.tokens.specs.declared.Token.{Token}
 use Rattle.grammar.specs.File.{Here, open_list, open_tuple, ascii, Bracket, value, after, word, other, digits, goes, dead, spaced, begins, step, refused, rest}
 use Rattle.grammar.specs.Steps.{from, from_step, from-dead, from_end, from-run, letters-run}
 use Rattle.values.specs.Skipping.{resumed, IsBeyond, skip_of}
@@ -61,7 +61,7 @@ module _ (h : Here) (due : List Bracket) where
       ∙ rw (letters t at l (run_of Name (drop (at + 1) t))) (pick (is_reserved (take (behind Name t (at + 1) - at) (drop at t))))
     where
       pick : (x : Bool) → cond x (refused (behind Name t (at + 1))) (from h due after t (behind Name t (at + 1)))
-          ≡ resumed h due t (skip_of (cond x (Neither (behind Name t (at + 1))) (Atom at (behind Name t (at + 1)) (behind Name t (at + 1)))))
+          ≡ resumed h due t (skip_of (cond x (Err (behind Name t (at + 1))) (Ok (Token.Atom (atom_from at (behind Name t (at + 1)) (behind Name t (at + 1)))))))
       pick true = refl
       pick false = refl
 
@@ -112,13 +112,13 @@ module _ (h : Here) (due : List Bracket) where
       escape p q = rw (p, q)
 
       ends : e < length t → (x y : Bool) → eqb (get_or t e 0) quote ≡ x → eqb (get_or t e 0) 92 ≡ y → (not x && not y) ≡ false
-          → from h due other t e ≡ resumed h due t (skip_of (cond x (Atom at e (e + 1)) (Neither e)))
+          → from h due other t e ≡ resumed h due t (skip_of (cond x (Ok (Token.Atom (atom_from at e (e + 1)))) (Err e)))
       ends l true y p q n = from_step t h due other e h due after l (closing p)
       ends l false true p q n = from-dead t h due other e l (escape p q)
       ends l false false p q n = absurd (let z : ◌≡◌ {A = ℕ} 0 1 = cc in omega arith)
 
       go : (x : Bool) → ltb e (length t) ≡ x
-          → from h due other t e ≡ resumed h due t (skip_of (cond x (cond (eqb (get_or t e 0) quote) (Atom at e (e + 1)) (Neither e)) (Neither e)))
+          → from h due other t e ≡ resumed h due t (skip_of (cond x (cond (eqb (get_or t e 0) quote) (Ok (Token.Atom (atom_from at e (e + 1)))) (Err e)) (Err e)))
       go true l = ends (ltb-true e (length t) l) (eqb (get_or t e 0) quote) (eqb (get_or t e 0) 92) refl refl (stops (ltb-true e (length t) l))
       go false l = from_end t h due other e (ltb-false e (length t) l)
 
@@ -140,7 +140,7 @@ module _ (h : Here) (due : List Bracket) where
       move x y z p q r = rw (dark, p, q, r, ne_eqb (get_or t at 0) (ascii open_list) a, ne_eqb (get_or t at 0) (ascii open_tuple) b)
 
       by_byte : (x y z : Bool) → small (get_or t at 0) ≡ x → eqb (get_or t at 0) quote ≡ y → digit (get_or t at 0) ≡ z
-          → from h due value t at ≡ resumed h due t (skip_of (cond x (plain_at t at) (cond y (quoted_at t (at + 1)) (cond z (Number (behind Digit t (at + 1))) (Neither at)))))
+          → from h due value t at ≡ resumed h due t (skip_of (cond x (plain_at t at) (cond y (quoted_at t (at + 1)) (cond z (Ok (Token.Number (behind Digit t (at + 1)))) (Err at)))))
       by_byte true y z p q r = from_step t h due value at h due (word (get_or t at 0 ∷ [])) l (move true y z p q r) ∙ plain-goes t at l
       by_byte false true z p q r = from_step t h due value at h due other l (move false true z p q r) ∙ quoted-goes t (at + 1)
       by_byte false false true p q r = from_step t h due value at h due digits l (move false false true p q r) ∙ from-digits t (at + 1)
@@ -157,9 +157,9 @@ plain-beyond t at l =
   where
     go : (x y z u v : Bool) → ltb (behind Quoted t (at + 1)) (length t) ≡ v → (w : Bool)
         → behind Name t (at + 1) ≤ length t → behind Quoted t (at + 1) ≤ length t → behind Digit t (at + 1) ≤ length t
-        → IsBeyond at t (skip_of (cond x (cond u (Neither (behind Name t (at + 1))) (Atom at (behind Name t (at + 1)) (behind Name t (at + 1))))
-        (cond y (cond v (cond w (Atom (at + 1) (behind Quoted t (at + 1)) (behind Quoted t (at + 1) + 1)) (Neither (behind Quoted t (at + 1)))) (Neither (behind Quoted t (at + 1))))
-        (cond z (Number (behind Digit t (at + 1))) (Neither at)))))
+        → IsBeyond at t (skip_of (cond x (cond u (Err (behind Name t (at + 1))) (Ok (Token.Atom (atom_from at (behind Name t (at + 1)) (behind Name t (at + 1))))))
+        (cond y (cond v (cond w (Ok (Token.Atom (atom_from (at + 1) (behind Quoted t (at + 1)) (behind Quoted t (at + 1) + 1)))) (Err (behind Quoted t (at + 1)))) (Err (behind Quoted t (at + 1))))
+        (cond z (Ok (Token.Number (behind Digit t (at + 1)))) (Err at)))))
     go true y z true v e w a b d = (omega arith, a)
     go true y z false v e w a b d = (omega arith, a)
     go false true z u true e true a b d = (omega arith, omega (arith, ltb-true (behind Quoted t (at + 1)) (length t) e))

@@ -1,35 +1,36 @@
 // Skipping the value of a pair: an atom, a number, or a list or a tuple of values, nested to a depth.
 #![tactic(auto)]
 
-ghost use Rattle.std.specs.Prelude.{◌≡◌, ◌≤◌, ◌<◌, length};
+ghost use Rattle.std.specs.Prelude.{◌≡◌, ◌≤◌, ◌<◌, Err, length};
 ghost use Rattle.tokens.specs.Tokens.{token_at};
-ghost use Rattle.grammar.specs.File.{list, tuple};
+ghost use Rattle.grammar.specs.File.{list, tuple, closing};
 ghost use Rattle.values.specs.Skipping.{skip_of, stops_at, skip_of_number, NextItem, ToBracket, Emptied, PassedOver};
-ghost use Rattle.values.specs.declared.Skip.TheVariants as Skip;
 
 use tokens::Token;
-
-// What skipping answers: the place behind what is skipped, or the place of the first byte that no value has there.
-#[derive(Clone, Copy)]
-pub enum Skip {
-    Behind(usize),
-    Stop(usize),
-}
 
 // Lists and tuples nest so deep.
 const DEPTH: usize = 16;
 
 // Skippers answer a number: one below this is the place behind what is skipped, and this with a place on top of it stands for a stop there. No text is so long.
-// A number comes back in a register, and nothing but a constant tells the two apart: an enum, or the length of the text, would stand in the frame of each bracket
-// that is open.
+// A number comes back in a register, and nothing but a constant tells the two apart: a `Result`, or the length of the text, would stand in the frame of each
+// bracket that is open (tried: 144 bytes of stack a bracket, where a number takes 48).
 const STOP: usize = 9223372036854775808;
 
 // The number for a stop at a place.
+#[tactic(auto, unfolding(crate::specs::Skipping::skip_of_number))]
 fn stop(at: usize) -> usize
     requires { at < stops_at }
-    ensures { skip_of_number result ≡ Skip.Stop at }
+    ensures { skip_of_number result ≡ Err at }
 {
     STOP + at
+}
+
+// The answer that a number stands for.
+#[tactic(auto, unfolding(crate::specs::Skipping::skip_of_number))]
+fn answer(r: usize) -> Result<usize, usize>
+    ensures { result ≡ skip_of_number r }
+{
+    if r < STOP { Ok(r) } else { Err(r - STOP) }
 }
 
 // Skips the atom or the number at a place.
@@ -38,9 +39,9 @@ fn plain(text: &[u8], at: usize) -> usize
     ensures { skip_of_number result ≡ skip_of (token_at text.now at) }
 {
     match tokens::token_at(text, at) {
-        Token::Atom(_, _, n) => n,
-        Token::Number(n) => n,
-        Token::Neither(p) => stop(p),
+        Ok(Token::Atom(a)) => a.past,
+        Ok(Token::Number(n)) => n,
+        Err(p) => stop(p),
     }
 }
 
@@ -107,12 +108,12 @@ fn flat(text: &[u8], at: usize, close: u8, opened: bool) -> usize
     }
 }
 
-// Skips the items of a list and its closing bracket, from behind the opening one. Lists and tuples nest, each holding the other,
-// so the skippers of both call each other, with the depth that is left falling.
+// Skips the items of a list and its closing bracket, from behind the opening one. Lists and tuples nest, each holding the other, so the skippers of both call each
+// other, with the depth that is left falling. Two functions and not one with the bracket as a parameter: the form that the project has for them (docs/DECISIONS.md).
 #[cycle(skip_list_skip_tuple)]
 fn skip_list(text: &[u8], at: usize, depth: usize) -> usize
     requires { at ≤ length text.now }
-    ensures { Emptied list text.now at depth (skip_of_number result) }
+    ensures { Emptied (closing list) text.now at depth (skip_of_number result) }
 {
     let mut j = at;
     let mut opened = true;
@@ -146,7 +147,7 @@ fn skip_list(text: &[u8], at: usize, depth: usize) -> usize
 #[cycle(skip_list_skip_tuple)]
 fn skip_tuple(text: &[u8], at: usize, depth: usize) -> usize
     requires { at ≤ length text.now }
-    ensures { Emptied tuple text.now at depth (skip_of_number result) }
+    ensures { Emptied (closing tuple) text.now at depth (skip_of_number result) }
 {
     let mut j = at;
     let mut opened = true;
@@ -176,24 +177,17 @@ fn skip_tuple(text: &[u8], at: usize, depth: usize) -> usize
     }
 }
 
-// Skips the value of a pair, at a place.
-pub fn skip_value(text: &[u8], at: usize) -> Skip
+// Skips the value of a pair, at a place: the place behind it, or the place of the first byte that no value has there.
+pub fn skip_value(text: &[u8], at: usize) -> Result<usize, usize>
     ensures { PassedOver text.now at result }
 {
     let i = tokens::past_white(text, at);
     if text.len() <= i {
-        return Skip::Stop(i);
+        return Err(i);
     }
-    let b = text[i];
-    let r = if b == b'[' {
-        skip_list(text, i + 1, DEPTH - 1)
-    } else if b == b'{' {
-        skip_tuple(text, i + 1, DEPTH - 1)
-    } else {
-        plain(text, i)
-    };
-    if STOP <= r {
-        return Skip::Stop(r - STOP);
+    match text[i] {
+        b'[' => answer(skip_list(text, i + 1, DEPTH - 1)),
+        b'{' => answer(skip_tuple(text, i + 1, DEPTH - 1)),
+        _ => answer(plain(text, i)),
     }
-    Skip::Behind(r)
 }

@@ -1,7 +1,7 @@
 -- Signs and atoms: what is read at a place is what the machine of `grammar` reads from there. Assumes nothing.
 use Rattle.std.proofs.Math.Path.{◌≡◌, refl}
 use Rattle.std.proofs.Common.{◌∙◌, add-zero, add-one, drop-drop}
-use Rattle.std.specs.Prelude.{Bool, ◌&&◌, ℕ, suc, ◌+◌, ◌-◌, ◌<◌, length, drop, take, get_or}
+use Rattle.std.specs.Prelude.{Result, Ok, Err, Bool, ◌&&◌, ℕ, suc, ◌+◌, ◌-◌, ◌<◌, length, drop, take, get_or}
 use Rattle.std.proofs.Math.Bool.{true, false, not, cond}
 use mathlib.Core.List.{List, [], ◌∷◌, ◌++◌}
 use native.Mathlib.Omega.{arith}
@@ -11,16 +11,14 @@ use Rattle.std.proofs.Math.Seq.{drop-cons}
 use Rattle.tokens.specs.Bytes.{quote, white, small, digit, plain_byte}
 use Rattle.tokens.specs.Runs.{run_of}
 use Rattle.tokens.specs.Reserved.{is_reserved}
-use Rattle.tokens.specs.Tokens.{behind, plain_to, plain_at, quoted_to, quoted_at, token_at}
+use Rattle.tokens.specs.Tokens.{behind, plain_to, plain_at, quoted_to, quoted_at, token_at, atom_from}
 use Rattle.tokens.specs.Within.{run_none, run-stops}
 use Rattle.tokens.specs.declared.Class.TheVariants.{White, Name, Digit, Quoted}
+use Rattle.tokens.specs.declared.Atom.{Atom}
 use Rattle.tokens.specs.declared.Token.{Token}
 use Rattle.grammar.specs.File.{Here, Sign, ascii, Use, Phase, sign, atom, plain, quoted, Move, goes, dead, spaced, reads, named, step, Outcome, refused, ends, onward, rest}
 use Rattle.grammar.specs.Steps.{from, from-dead, from_end, from-run, led, from-plain, from-quoted, quote-ends}
 use Rattle.walk.specs.Walk.{part, dark, sign_from, sign_at, then_sign, atom_of, atom_at}
-use Rattle.walk.specs.declared.Step.{Step}
-use Rattle.walk.specs.declared.Step.TheVariants.{Past, Stop}
-use Rattle.walk.specs.declared.Atom.{Atom}
 
 -- ---- the first byte behind white space decides
 
@@ -54,15 +52,15 @@ module _ (h : Here) (ph : Phase) (m : ℕ → Move) (spaces : (b : ℕ) → step
 -- ---- a sign
 
 -- the rest of a text behind what was read, or its refusal
-abbrev pub passed : Here → Phase → List ℕ → Step → Outcome
-passed h ph t (Past n) = from h [] ph t n
-passed h ph t (Stop p) = refused p
+abbrev pub passed : Here → Phase → List ℕ → Result ℕ ℕ → Outcome
+passed h ph t (Ok n) = from h [] ph t n
+passed h ph t (Err p) = refused p
 
 sign-moves : (t : List ℕ) (i : ℕ) (s : Sign) (h : Here) (ph : Phase) → cond (ltb i (length t)) (moved t i (cond (eqb (get_or t i 0) (ascii s)) (goes h [] ph) dead)) (refused i) ≡ passed h ph t (sign_from t i (ascii s))
 unfolding sign_from
 sign-moves t i s h ph = go (ltb i (length t)) (eqb (get_or t i 0) (ascii s))
   where
-    go : (x y : Bool) → cond x (moved t i (cond y (goes h [] ph) dead)) (refused i) ≡ passed h ph t (cond x (cond y (Past (i + 1)) (Stop i)) (Stop i))
+    go : (x y : Bool) → cond x (moved t i (cond y (goes h [] ph) dead)) (refused i) ≡ passed h ph t (cond x (cond y (Ok (i + 1)) (Err i)) (Err i))
     go true true = refl
     go true false = refl
     go false y = refl
@@ -72,16 +70,16 @@ unfolding step reads sign_at
 sign_read t at s h ph = behind-white h (sign s ph) (λ b. cond (eqb b (ascii s)) (goes h [] ph) dead) (λ b. refl) t at ∙ sign-moves t (dark t at) s h ph
 
 -- and behind what was read before it
-pub then_sign-read : (t : List ℕ) (r : Step) (s : Sign) (h : Here) (ph : Phase) → passed h (sign s ph) t r ≡ passed h ph t (then_sign t r (ascii s))
-then_sign-read t (Past n) s h ph = sign_read t n s h ph
-then_sign-read t (Stop p) s h ph = refl
+pub then_sign-read : (t : List ℕ) (r : Result ℕ ℕ) (s : Sign) (h : Here) (ph : Phase) → passed h (sign s ph) t r ≡ passed h ph t (then_sign t r (ascii s))
+then_sign-read t (Ok n) s h ph = sign_read t n s h ph
+then_sign-read t (Err p) s h ph = refl
 
 -- ---- an atom
 
 -- the rest of a text behind an atom, which leads on by its name, or its refusal
-abbrev pub atom_led : Here → Use → List ℕ → Atom → Outcome
-atom_led h u t (Atom.Is s e n) = led (named h u (part t s e)) e n (drop n t)
-atom_led h u t (Atom.Stop p) = refused p
+abbrev pub atom_led : Here → Use → List ℕ → Result Atom ℕ → Outcome
+atom_led h u t (Ok a) = led (named h u (part t a.from a.to)) a.to a.past (drop a.past t)
+atom_led h u t (Err p) = refused p
 
 module _ (h : Here) (u : Use) (t : List ℕ) (i : ℕ) where
   -- its letters are the first one and the run behind it
@@ -95,7 +93,7 @@ module _ (h : Here) (u : Use) (t : List ℕ) (i : ℕ) where
   plain-read l = from-plain t h u (get_or t i 0 ∷ []) (i + 1) ∙ rw (letters l) (go (is_reserved (part t i (behind Name t (i + 1)))))
     where
       go : (x : Bool) → let e = behind Name t (i + 1) in
-          cond x (refused e) (led (named h u (part t i e)) e e (drop e t)) ≡ atom_led h u t (atom_of i (cond x (Token.Neither e) (Token.Atom i e e)))
+          cond x (refused e) (led (named h u (part t i e)) e e (drop e t)) ≡ atom_led h u t (atom_of i (cond x (Err e) (Ok (Token.Atom (atom_from i e e)))))
       go true = refl
       go false = refl
 
@@ -116,7 +114,7 @@ module _ (h : Here) (u : Use) (t : List ℕ) (i : ℕ) where
     where
       go : (e : ℕ) → e ≡ behind Quoted t (i + 1) → (x : Bool) → ltb e (length t) ≡ x → (y : Bool) → eqb (get_or t e 0) quote ≡ y
           → from h [] (quoted u (take (run_of Quoted (drop (i + 1) t)) (drop (i + 1) t))) t e
-          ≡ atom_led h u t (atom_of i (cond x (cond y (Token.Atom (i + 1) e (e + 1)) (Token.Neither e)) (Token.Neither e)))
+          ≡ atom_led h u t (atom_of i (cond x (cond y (Ok (Token.Atom (atom_from (i + 1) e (e + 1)))) (Err e)) (Err e)))
       go e p true f true g =
           let n : e - (i + 1) ≡ run_of Quoted (drop (i + 1) t) = omega arith in
           rw n (quote-ends t h u (take (run_of Quoted (drop (i + 1) t)) (drop (i + 1) t)) e (ltb-true e (length t) f) (eqb-true _ _ g))
@@ -132,7 +130,7 @@ module _ (h : Here) (u : Use) (t : List ℕ) (i : ℕ) where
     where
       go : (w : Bool) → ltb i (length t) ≡ w → (x y z : Bool)
           → cond w (moved t i (cond x (goes h [] (plain u (get_or t i 0 ∷ []))) (cond y (goes h [] (quoted u [])) dead))) (refused i)
-          ≡ atom_led h u t (atom_of i (cond w (cond x (plain_at t i) (cond y (quoted_at t (i + 1)) (cond z (Token.Number (behind Digit t (i + 1))) (Token.Neither i)))) (Token.Neither i)))
+          ≡ atom_led h u t (atom_of i (cond w (cond x (plain_at t i) (cond y (quoted_at t (i + 1)) (cond z (Ok (Token.Number (behind Digit t (i + 1)))) (Err i)))) (Err i)))
       go true e true y z = plain-read (ltb-true i (length t) e)
       go true e false true z = quoted-read
       go true e false false true = refl

@@ -1,223 +1,185 @@
-// Walking the groups of a launch file: each function reads one thing at a place of the text, and answers the place behind it or the place where it stops.
+// Walking the groups of a launch file: each function reads one thing at a place of the text, and answers the place behind it or, as an error, the place where it
+// stops.
 #![tactic(auto)]
 
 ghost use Rattle.std.specs.Prelude.{◌≡◌};
-ghost use Rattle.walk.specs.Walk.{sign_at, then_sign, atom_at, letters_at, normal_at, then_normal, head_at, node_at, entry_at};
-ghost use Rattle.walk.specs.Groups.{pass_nodes, pass_groups};
+ghost use Rattle.std.specs.Iterator.{YieldsFirstRef, item_count};
+ghost use Rattle.walk.specs.Walk.{sign_at, atom_at, letters_at, normal_at, head_at, node_at, entry_at};
+ghost use Rattle.walk.specs.Groups.{nodes, pass_nodes, pass_groups};
+ghost use Rattle.walk.specs.Along.{nodes_left};
 
-use tokens::{Token, past_white};
+use tokens::{Atom, Token, past_white};
 
-// A sign or a given word: the place behind it, or the place where it stops.
-#[derive(Clone, Copy)]
-pub enum Step {
-    Past(usize),
-    Stop(usize),
-}
-
-// An atom: where its name begins and ends, and the place behind it; or the place where it stops.
-#[derive(Clone, Copy)]
-pub enum Atom {
-    Is(usize, usize, usize),
-    Stop(usize),
-}
-
-// A node of a group: where its name begins and ends, and the place behind its comma; the last one, and the place behind the whole group; or the place where
-// it stops.
+// A node of a group: behind it stands a comma, and the place is behind that; or it is the last one, and the place is behind the whole group.
 #[derive(Clone, Copy)]
 pub enum Node {
-    More(usize, usize, usize),
-    Last(usize, usize, usize),
-    Stop(usize),
+    More(Atom),
+    Last(Atom),
 }
 
-// What stands in the list of groups: a group, and the place behind its bracket; the end of the list, and the place behind that; or the place of a byte that is
-// neither.
+// The nodes of a group, one by one: the place of the next one, where one is left.
+#[derive(Clone, Copy)]
+pub struct Nodes<'a> {
+    text: &'a [u8],
+    at: Option<usize>,
+}
+
+// What stands in the list of groups: a group, and the place behind its bracket; or the end of the list, and the place behind that.
 #[derive(Clone, Copy)]
 pub enum Entry {
     Group(usize),
     Closed(usize),
-    Stop(usize),
 }
 
 // The sign c, behind white space.
-pub fn sign_at(text: &[u8], at: usize, c: u8) -> Step
+#[tactic(auto, unfolding(crate::specs::Walk::sign_at, crate::specs::Walk::sign_from))]
+pub fn sign_at(text: &[u8], at: usize, c: u8) -> Result<usize, usize>
     ensures { result ≡ sign_at text.now at c }
 {
     let i = past_white(text, at);
-    if text.len() <= i {
-        return Step::Stop(i);
+    if text.get(i) == Some(&c) {
+        return Ok(i + 1);
     }
-    let past = i + 1;
-    if text[i] == c {
-        return Step::Past(past);
-    }
-    Step::Stop(i)
-}
-
-// The sign c behind what was read before.
-pub fn then_sign(text: &[u8], before: Step, c: u8) -> Step
-    ensures { result ≡ then_sign text.now before c }
-{
-    match before {
-        Step::Past(n) => sign_at(text, n, c),
-        Step::Stop(p) => Step::Stop(p),
-    }
+    Err(i)
 }
 
 // An atom, behind white space.
-pub fn atom_at(text: &[u8], at: usize) -> Atom
+#[tactic(auto, unfolding(crate::specs::Walk::atom_at))]
+pub fn atom_at(text: &[u8], at: usize) -> Result<Atom, usize>
     ensures { result ≡ atom_at text.now at }
 {
     let i = past_white(text, at);
-    match tokens::token_at(text, i) {
-        Token::Atom(s, e, n) => Atom::Is(s, e, n),
-        Token::Number(_) => Atom::Stop(i),
-        Token::Neither(p) => Atom::Stop(p),
+    match tokens::token_at(text, i)? {
+        Token::Atom(name) => Ok(name),
+        Token::Number(_) => Err(i),
     }
 }
 
 // The letters of a word.
-fn letters_at(text: &[u8], at: usize, word: &[u8]) -> Step
+#[tactic(auto, unfolding(crate::specs::Walk::letters_at))]
+fn letters_at(text: &[u8], at: usize, word: &[u8]) -> Result<usize, usize>
     ensures { result ≡ letters_at text.now at word.now }
 {
-    let mut i = 0;
     let mut j = at;
-    while i < word.len() {
-        if text.len() <= j {
-            return Step::Stop(j);
-        }
-        if text[j] != word[i] {
-            return Step::Stop(j);
+    for letter in word {
+        if text.get(j) != Some(letter) {
+            return Err(j);
         }
         j += 1;
-        i += 1;
     }
-    Step::Past(j)
+    Ok(j)
 }
 
 // `normal`, plain or quoted, behind white space.
-fn normal_at(text: &[u8], at: usize) -> Step
+#[tactic(auto, unfolding(crate::specs::Walk::normal_at, crate::specs::Walk::normal_from, crate::specs::Walk::letters_at))]
+fn normal_at(text: &[u8], at: usize) -> Result<usize, usize>
     ensures { result ≡ normal_at text.now at }
 {
     let i = past_white(text, at);
-    if text.len() <= i {
-        return Step::Stop(i);
-    }
-    let past = i + 1;
-    if text[i] == b'\'' {
-        return letters_at(text, past, b"normal'");
+    if text.get(i) == Some(&b'\'') {
+        return letters_at(text, i + 1, b"normal'");
     }
     letters_at(text, i, b"normal")
 }
 
-// `normal` behind what was read before.
-fn then_normal(text: &[u8], before: Step) -> Step
-    ensures { result ≡ then_normal text.now before }
-{
-    match before {
-        Step::Past(n) => normal_at(text, n),
-        Step::Stop(p) => Step::Stop(p),
-    }
-}
-
 // The front of a group, behind its bracket: its name, `normal`, and the bracket of its nodes, behind which the place is.
-pub fn head_at(text: &[u8], at: usize) -> Atom
+#[tactic(auto, unfolding(crate::specs::Walk::head_at))]
+pub fn head_at(text: &[u8], at: usize) -> Result<Atom, usize>
     ensures { result ≡ head_at text.now at }
 {
-    match atom_at(text, at) {
-        Atom::Stop(p) => Atom::Stop(p),
-        Atom::Is(s, e, n) => {
-            let kind = then_normal(text, sign_at(text, n, b','));
-            match then_sign(text, then_sign(text, kind, b','), b'[') {
-                Step::Past(m) => Atom::Is(s, e, m),
-                Step::Stop(p) => Atom::Stop(p),
-            }
-        }
-    }
+    let name = atom_at(text, at)?;
+    let kind = normal_at(text, sign_at(text, name.past, b',')?)?;
+    let past = sign_at(text, sign_at(text, kind, b',')?, b'[')?;
+    Ok(Atom { past, ..name })
 }
 
 // A node of a group, and what stands behind it.
-pub fn node_at(text: &[u8], at: usize) -> Node
+#[tactic(auto, using(crate::proofs::Steps::sign_ended), unfolding(crate::specs::Walk::node_at, crate::specs::Walk::node_from))]
+pub fn node_at(text: &[u8], at: usize) -> Result<Node, usize>
     ensures { result ≡ node_at text.now at }
 {
-    match atom_at(text, at) {
-        Atom::Stop(p) => Node::Stop(p),
-        Atom::Is(s, e, n) => {
-            let i = past_white(text, n);
-            if text.len() <= i {
-                return Node::Stop(i);
-            }
-            let past = i + 1;
-            if text[i] == b',' {
-                return Node::More(s, e, past);
-            }
-            match then_sign(text, sign_at(text, i, b']'), b'}') {
-                Step::Past(m) => Node::Last(s, e, m),
-                Step::Stop(p) => Node::Stop(p),
-            }
-        }
+    let node = atom_at(text, at)?;
+    let i = past_white(text, node.past);
+    if text.get(i) == Some(&b',') {
+        return Ok(Node::More(Atom {
+            past: i + 1,
+            ..node
+        }));
     }
+    let past = sign_at(text, sign_at(text, i, b']')?, b'}')?;
+    Ok(Node::Last(Atom { past, ..node }))
 }
 
 // What stands at a place of the list of groups, behind its bracket or, once it has begun, behind a group.
-pub fn entry_at(text: &[u8], at: usize, begun: bool) -> Entry
+#[tactic(auto, using(crate::proofs::Steps::sign_ended), unfolding(crate::specs::Walk::entry_at, crate::specs::Walk::entry_from, crate::specs::Walk::bracket_at))]
+pub fn entry_at(text: &[u8], at: usize, begun: bool) -> Result<Entry, usize>
     ensures { result ≡ entry_at text.now at begun }
 {
     let i = past_white(text, at);
-    if text.len() <= i {
-        return Entry::Stop(i);
+    if text.get(i) == Some(&b']') {
+        return Ok(Entry::Closed(i + 1));
     }
-    let past = i + 1;
-    if text[i] == b']' {
-        return Entry::Closed(past);
-    }
-    let bracket = if begun {
-        then_sign(text, sign_at(text, i, b','), b'{')
-    } else {
-        sign_at(text, i, b'{')
-    };
-    match bracket {
-        Step::Past(n) => Entry::Group(n),
-        Step::Stop(p) => Entry::Stop(p),
+    let bracket = if begun { sign_at(text, i, b',')? } else { i };
+    Ok(Entry::Group(sign_at(text, bracket, b'{')?))
+}
+
+// The names of the nodes from a place on.
+pub fn nodes_from(text: &[u8], at: usize) -> Nodes<'_>
+    ensures { nodes_left result ≡ nodes text.now at }
+{
+    Nodes { text, at: Some(at) }
+}
+
+impl<'a> Iterator for Nodes<'a> {
+    type Item = &'a [u8];
+
+    ghost next_gives = { YieldsFirstRef nodes_left };
+
+    ghost remaining = { item_count nodes_left };
+
+    #[tactic(auto, using(crate::proofs::Steps::next_node))]
+    fn next(&mut self) -> Option<&'a [u8]> {
+        let at = self.at?;
+        self.at = None;
+        let node = match node_at(self.text, at).ok()? {
+            Node::More(node) => {
+                self.at = Some(node.past);
+                node
+            }
+            Node::Last(node) => node,
+        };
+        Some(&self.text[node.from..node.to])
     }
 }
 
 // The rest of a group, from its first node or from behind a comma.
-pub fn pass_nodes(text: &[u8], at: usize) -> Step
+#[tactic(auto, using(crate::proofs::Steps::node_steps))]
+pub fn pass_nodes(text: &[u8], at: usize) -> Result<usize, usize>
     ensures { result ≡ pass_nodes text.now at }
 {
     let mut j = at;
     loop {
-        match node_at(text, j) {
-            Node::More(_, _, n) => {
-                j = n;
-            }
-            Node::Last(_, _, n) => return Step::Past(n),
-            Node::Stop(p) => return Step::Stop(p),
+        match node_at(text, j)? {
+            Node::More(node) => j = node.past,
+            Node::Last(node) => return Ok(node.past),
         }
     }
 }
 
 // The groups, from behind the bracket of their list to behind the one that closes it.
-pub fn pass_groups(text: &[u8], at: usize) -> Step
+#[tactic(auto, using(crate::proofs::Steps::group_steps))]
+pub fn pass_groups(text: &[u8], at: usize) -> Result<usize, usize>
     ensures { result ≡ pass_groups text.now at }
 {
     let mut j = at;
     let mut begun = false;
     loop {
-        match entry_at(text, j, begun) {
-            Entry::Closed(n) => return Step::Past(n),
-            Entry::Stop(p) => return Step::Stop(p),
-            Entry::Group(n) => match head_at(text, n) {
-                Atom::Stop(p) => return Step::Stop(p),
-                Atom::Is(_, _, m) => match pass_nodes(text, m) {
-                    Step::Stop(p) => return Step::Stop(p),
-                    Step::Past(k) => {
-                        j = k;
-                        begun = true;
-                    }
-                },
-            },
+        match entry_at(text, j, begun)? {
+            Entry::Group(front) => {
+                j = pass_nodes(text, head_at(text, front)?.past)?;
+                begun = true;
+            }
+            Entry::Closed(past) => return Ok(past),
         }
     }
 }

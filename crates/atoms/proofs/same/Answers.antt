@@ -3,7 +3,7 @@ use mathlib.Core.Path.{◌≡◌, refl, sym, ap, ◌∙◌}
 use mathlib.Core.Logic.{⊎_elim}
 use mathlib.Core.Bool.{true, false}
 use mathlib.Core.List.{List}
-use Prim.Native.Nat.{ℕ, ◌+◌, ◌-◌, ◌≤◌, ◌<◌}
+use Prim.Native.Nat.{ℕ, ◌+◌, ◌*◌, ◌-◌, ◌≤◌, ◌<◌}
 use native.Mathlib.Omega.{arith}
 use borrow.Author.Tests.{eqb-true, eq-eqb}
 use lib.Bits.{bit_or, bit_xor, xor_self}
@@ -101,27 +101,27 @@ returns-then-n-le24 c =
     let in_b : Bytes s.b.now = λ j. omega (arith, c.type_inv.b j) in
     all_alike s.a.now s.b.now in-a in_b c.if-n-b.false 8 _ (more-alike _ _ in-a in_b 0 (λ j h. absurd (omega arith)) e.0) (omega arith) (omega arith) e.2 e.1
 
-pub loop-i-init : goal.loop-i-init
-loop-i-init c =
+pub loop-k-init : goal.loop-k-init
+loop-k-init c =
     let s = c.args in
     let e = three s.a.now s.b.now _ _ _ _ _ _ c.difference.ensures c.difference-2.ensures c.difference-3.ensures c.if-difference-ne0.false in
-    (omega arith, more-alike _ _ (λ j. omega (arith, c.type_inv.a j)) (λ j. omega (arith, c.type_inv.b j)) 0 (λ j h. absurd (omega arith)) e.0)
+    more-alike _ _ (λ j. omega (arith, c.type_inv.a j)) (λ j. omega (arith, c.type_inv.b j)) 0 (λ j h. absurd (omega arith)) e.0
 
 pub returns-then-difference-ne0-2 : goal.returns-then-difference-ne0-2
 returns-then-difference-ne0-2 c =
     let s = c.args in
-    differ-at s.a.now s.b.now _ _ c.difference-in-loop-i.ensures c.if-difference-ne0-2.true
+    differ-at s.a.now s.b.now _ _ c.difference-in-loop-k.ensures c.if-difference-ne0-2.true
 
-pub loop-i-preserved : goal.loop-i-preserved
-loop-i-preserved c =
-    let s = c.args in (
-      omega arith,
-      more-alike s.a.now s.b.now (λ j. omega (arith, c.type_inv.a j)) (λ j. omega (arith, c.type_inv.b j)) _ c.loop-i.invariant.1
-          (no_difference _ _ (sym c.difference-in-loop-i.ensures ∙ c.if-difference-ne0-2.false)),
-    )
+pub loop-k-preserved : goal.loop-k-preserved
+loop-k-preserved c =
+    let s = c.args in
+    let next : 8 * (c.loop-k.k + 1) ≡ 8 * c.loop-k.k + 8 = omega arith in
+    rw next
+    (more-alike s.a.now s.b.now (λ j. omega (arith, c.type_inv.a j)) (λ j. omega (arith, c.type_inv.b j)) _ c.loop-k.invariant
+    (no_difference _ _ (sym c.difference-in-loop-k.ensures ∙ c.if-difference-ne0-2.false)))
 
 pub returns : goal.returns
 returns c =
     let s = c.args in
     let e = three s.a.now s.b.now _ _ _ _ _ _ c.difference.ensures c.difference-2.ensures c.difference-3.ensures c.if-difference-ne0.false in
-    all_alike s.a.now s.b.now (λ j. omega (arith, c.type_inv.a j)) (λ j. omega (arith, c.type_inv.b j)) c.if-n-b.false _ _ c.loop-i.invariant.1 (omega arith) (omega arith) e.1 e.1
+    all_alike s.a.now s.b.now (λ j. omega (arith, c.type_inv.a j)) (λ j. omega (arith, c.type_inv.b j)) c.if-n-b.false _ _ c.loop-k.invariant (omega arith) (omega arith) e.1 e.1

@@ -1,7 +1,7 @@
 -- `atoms::same` meets its contract: what is compared covers all bytes. Assumes nothing.
 use mathlib.Core.Path.{◌≡◌}
 use mathlib.Core.List.{List}
-use Prim.Native.Nat.{ℕ, ◌-◌, ◌≤◌, ◌<◌}
+use Prim.Native.Nat.{ℕ, ◌*◌, ◌<◌}
 use lib.ListN.{get_or}
 use Rattle.atoms.proofs.same.Given as goal
 
@@ -9,8 +9,5 @@ use Rattle.atoms.proofs.same.Given as goal
 abbrev pub Alike : List ℕ → List ℕ → ℕ → Type 0
 Alike a b i = (k : ℕ) → k < i → get_or a k 0 ≡ get_or b k 0
 
-abbrev pub invariant-loop-i : goal.invariant-loop-i
-invariant-loop-i l = (l.i ≤ l.n - 1) × Alike l.a l.b l.i
-
-abbrev pub decreases-loop-i : goal.decreases-loop-i
-decreases-loop-i l = l.n - l.i
+abbrev pub invariant-loop-k : goal.invariant-loop-k
+invariant-loop-k l = Alike l.a l.b (8 * l.k)

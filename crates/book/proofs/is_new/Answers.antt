@@ -45,7 +45,8 @@ returns-then-not-met c =
 
 pub among_first-requires : goal.among_first-requires
 among_first-requires c =
-    places_marked 0 _ _ _ _ c.requires _ _ (omega arith) c.set_mark.ensures c.if-count-le-INDEXED_LINES.true
+    let p = places_marked 0 _ _ _ _ c.requires _ _ (omega arith) c.set_mark.ensures c.if-count-le-INDEXED_LINES.true in
+    (p.1, p.2, p.3)
 
 pub returns-then-count-le-INDEXED_LINES : goal.returns-then-count-le-INDEXED_LINES
 returns-then-count-le-INDEXED_LINES c =

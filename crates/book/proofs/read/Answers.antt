@@ -11,7 +11,7 @@ use Rattle.text.specs.Text.{newline, find_in}
 use Rattle.text.specs.FieldLaws.{find-within}
 use Rattle.book.specs.Book.{fit}
 use Rattle.book.specs.Index.{Noted}
-use Rattle.book.specs.Reading.{start, count-within, size-more, short-more, no-newline, no-atom, stands-twice, goes-past, goes_on, too_few, too_many, is-book, is-noted}
+use Rattle.book.specs.Reading.{start, count-within, no-newline, no-atom, stands-twice, goes-past, goes_on, too_few, too_many, is-book, is-noted}
 use Rattle.book.proofs.read.Goals as goal
 
 refused : (n : ℕ) (t x : List ℕ) → fit n t ≡ false → (false ≡ fit n t) × (false ≡ true → Noted n t x)
@@ -26,7 +26,7 @@ end_within t at f h e = omega (arith, line-end t at f e, find-within newline (dr
 
 pub loop-at-init : goal.loop-at-init
 loop-at-init c =
-    rw (c.put_number.ensures, c.clear.ensures) (start _ c.args.index.now c.requires)
+    rw (c.put_number.ensures, c.clear.ensures) (start _ c.args.index.now (omega arith))
 
 pub overflow_add-e : goal.overflow_add-e
 overflow_add-e c =
@@ -55,16 +55,6 @@ pub overflow_add-i : goal.overflow_add-i
 overflow_add-i c =
     omega (arith, count-within 0 _ _ _ _ c.loop-at.invariant)
 
-pub put_number-requires-then-i-le-INDEXED_LINES : goal.put_number-requires-then-i-le-INDEXED_LINES
-put_number-requires-then-i-le-INDEXED_LINES c =
-    let e = line-end _ _ _ c.find.ensures in
-    let r = sym c.is_atom.ensures ∙ c.if-not-is_atom.false in
-    let n = not-true _ (sym c.is_new.ensures.0 ∙ c.if-not-is_new.false) in (
-      rw c.is_new.ensures.1 (size-more 0 _ _ _ _ c.loop-at.invariant _ e c.if-book-e.false r n),
-      omega arith,
-      omega (arith, short-more 0 _ _ _ _ c.loop-at.invariant _ e c.if-book-e.false r n),
-    )
-
 pub loop-at-preserved-then-i-le-INDEXED_LINES : goal.loop-at-preserved-then-i-le-INDEXED_LINES
 loop-at-preserved-then-i-le-INDEXED_LINES c =
     let e = line-end _ _ _ c.find.ensures in
@@ -86,9 +76,6 @@ returns-then-i-nodes c =
 pub returns-then-groups-gt-GROUP_ATOMS : goal.returns-then-groups-gt-GROUP_ATOMS
 returns-then-groups-gt-GROUP_ATOMS c =
     refused _ _ _ (too_many _ _ _ _ _ c.loop-at.invariant c.loop-at-test.false (omega arith))
-
-pub put_number-requires-2 : goal.put_number-requires-2
-put_number-requires-2 c = (c.loop-at.invariant.size, omega arith, omega arith)
 
 pub returns : goal.returns
 returns c =

@@ -5,8 +5,8 @@ use lib.ListN.{length}
 use Rattle.book.specs.Book.{lines, place_of}
 use Rattle.book.proofs.seek.Given as goal
 
-abbrev pub invariant-loop-t : goal.invariant-loop-t
-invariant-loop-t l = (l.i + length l.t ≤ length l.book) × (place_of l.atom (lines l.book) ≡ l.i + place_of l.atom (lines l.t))
+abbrev pub invariant-loop-line : goal.invariant-loop-line
+invariant-loop-line l = (l.i + length l.rest ≤ length l.book) × (place_of l.atom (lines l.book) ≡ l.i + place_of l.atom (lines l.rest))
 
-abbrev pub decreases-loop-t : goal.decreases-loop-t
-decreases-loop-t l = length l.t
+abbrev pub decreases-loop-line : goal.decreases-loop-line
+decreases-loop-line l = length l.rest

@@ -6,8 +6,8 @@ use Rattle.walk.specs.Groups.{groups, groups_from}
 use Rattle.duplicates.specs.Duplicates.{clashing, clash}
 use Rattle.duplicates.proofs.clashes.Given as goal
 
-abbrev pub invariant-loop-s : goal.invariant-loop-s
-invariant-loop-s l = clash (groups l.text l.g) l.node ≡ clashing (groups l.text l.g) (groups_from l.text l.j l.begun) l.node
+abbrev pub invariant-loop-group : goal.invariant-loop-group
+invariant-loop-group l = clash (groups l.text l.g) l.node ≡ clashing (groups l.text l.g) (groups_from l.text l.j l.begun) l.node
 
-abbrev pub decreases-loop-s : goal.decreases-loop-s
-decreases-loop-s l = length l.text - l.j
+abbrev pub decreases-loop-group : goal.decreases-loop-group
+decreases-loop-group l = length l.text - l.j

@@ -1,6 +1,4 @@
--- `free_test::all_zero` meets its contract: what is gathered is zero where the words passed are.
--- Assumes nothing.
-use borrow.Author.Rules.{rules}
+-- `free_test::all_zero` meets its contract: what is gathered is zero where the words passed are. Assumes nothing.
 use mathlib.Core.Path.{◌≡◌, refl, sym, ap, ◌∙◌}
 use Prim.Native.Nat.{ℕ}
 use native.Mathlib.Omega.{arith}
@@ -11,19 +9,19 @@ use Rattle.free_test.specs.Below.{below_none}
 use Rattle.free_test.specs.Gather.{gathered}
 use Rattle.free_test.proofs.all_zero.Goals as goal
 
-pub loop-i-init : goal.loop-i-init
-loop-i-init c = (search rules, search rules, sym (below_none _))
+pub loop-word-init : goal.loop-word-init
+loop-word-init c = sym (below_none _)
 
-pub loop-i-preserved : goal.loop-i-preserved
+pub loop-word-preserved : goal.loop-word-preserved
 unfolding union
-loop-i-preserved c =
-    let at = c.loop-i in
+loop-word-preserved c =
+    let at = c.loop-word in
     let words = c.args.words.now in
-    (search rules, search rules, gathered at.all (word_at words at.i) at.i (λ k. empty (word_at words k)) at.invariant.2 refl)
+    gathered at.all (word_at words at.word-index) at.word-index (λ k. empty (word_at words k)) at.invariant refl
 
 pub returns : goal.returns
 unfolding all_zero
 returns c =
     let words = c.args.words.now in
-    let end : c.loop-i.i ≡ length words = omega arith in
-    c.loop-i.invariant.2 ∙ ap (λ (n : ℕ). all_below n (λ k. empty (word_at words k))) end
+    let end : c.loop-word.word-index ≡ length words = omega arith in
+    c.loop-word.invariant ∙ ap (λ (n : ℕ). all_below n (λ k. empty (word_at words k))) end

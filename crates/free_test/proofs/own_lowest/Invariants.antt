@@ -1,15 +1,9 @@
--- `free_test::own_lowest` meets its contract: what is gathered and what is left of the set together say what the whole set says.
--- The measure is what is left. Assumes nothing.
+-- `free_test::own_lowest` meets its contract: what is gathered and what is left of the set together say what the whole set says. Assumes nothing.
 use mathlib.Core.Path.{◌≡◌}
 use mathlib.Core.Bool.{◌&&◌}
-use Prim.Native.Nat.{◌<◌, ◌^◌}
-use Rattle.nodes.specs.Sets.{node_limit, empty}
+use Rattle.nodes.specs.Sets.{empty}
 use Rattle.free_test.specs.WireTests.{all_of, is_lowest}
 use Rattle.free_test.proofs.own_lowest.Given as goal
 
-abbrev pub invariant-loop-left : goal.invariant-loop-left
-invariant-loop-left l =
-    (l.left < 2 ^ node_limit) × ((empty l.off && all_of l.left (is_lowest l.free)) ≡ all_of l.set (is_lowest l.free))
-
-abbrev pub decreases-loop-left : goal.decreases-loop-left
-decreases-loop-left l = l.left
+abbrev pub invariant-loop-i : goal.invariant-loop-i
+invariant-loop-i l = (empty l.off && all_of l.i-iterator.0 (is_lowest l.free)) ≡ all_of l.set (is_lowest l.free)

@@ -4,8 +4,8 @@ use lib.ListN.{length}
 use Rattle.gathering.specs.Turns.{Taken}
 use Rattle.gathering.proofs.gather.Given as goal
 
-abbrev pub invariant-loop-e : goal.invariant-loop-e
-invariant-loop-e l = Taken l.n l.book l.text l.g l.j l.begun l.k l.numbers l.sets
+abbrev pub invariant-loop-end : goal.invariant-loop-end
+invariant-loop-end l = Taken l.book.nodes l.book.text.now l.text l.g l.j l.begun l.k l.made
 
-abbrev pub decreases-loop-e : goal.decreases-loop-e
-decreases-loop-e l = length l.text - l.j
+abbrev pub decreases-loop-end : goal.decreases-loop-end
+decreases-loop-end l = length l.text - l.j

@@ -4,8 +4,9 @@ use lib.ListN.{length}
 use Rattle.gathering.specs.Gathering.{Noded}
 use Rattle.gathering.proofs.nodes_at.Given as goal
 
-abbrev pub invariant-loop-s : goal.invariant-loop-s
-invariant-loop-s l = (s m : ℕ) → Noded l.n l.book l.text l.j l.set s m → Noded l.n l.book l.text l.at 0 s m
+abbrev pub invariant-loop-node : goal.invariant-loop-node
+invariant-loop-node l =
+    (s m : ℕ) → Noded l.book.nodes l.book.text.now l.text l.j l.set s m → Noded l.book.nodes l.book.text.now l.text l.at 0 s m
 
-abbrev pub decreases-loop-s : goal.decreases-loop-s
-decreases-loop-s l = length l.text - l.j
+abbrev pub decreases-loop-node : goal.decreases-loop-node
+decreases-loop-node l = length l.text - l.j

@@ -17,9 +17,6 @@ use Rattle.groups.specs.Shifted.{comes-out}
 use Rattle.groups.specs.Regrouped.{mems, length-mems, mems-append, deleted}
 use Rattle.groups.proofs.delete_group.Goals as goal
 
-pub shape_of-t : goal.shape_of-t
-shape_of-t c = simp length-set (omega arith)
-
 pub returns : goal.returns
 unfolding sections
 returns c = λ st l x y g is stands.

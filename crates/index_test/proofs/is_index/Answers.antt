@@ -1,14 +1,11 @@
 -- `index_test::is_index` meets its contract: as many rows as the table has names, and zeros behind them. Assumes nothing.
 use borrow.Author.Rules.{part_to_end}
-use mathlib.Core.Path.{◌≡◌, refl, sym, ap, ◌∙◌}
-use mathlib.Core.Bool.{true, false, ◌&&◌}
-use Prim.Native.Nat.{◌*◌, ◌≤◌}
-use native.Mathlib.Omega.{arith}
-use lib.ListN.{length, drop}
-use Rattle.semantics.specs.Sizes.{names_per_group, row_words}
-use Rattle.semantics.specs.Test.{same}
+use Rattle.std.specs.Prelude.{◌≡◌, Bool, true, false, ◌&&◌, List, ℕ, ◌-◌, ◌*◌, ◌≤◌, length, take, drop}
+use Rattle.std.proofs.Common.{sym, ap, ◌∙◌, arith}
+use Rattle.semantics.specs.Sizes.{names_per_group, row_words, index_words}
+use Rattle.semantics.specs.Test.{same, sound}
 use Rattle.free_test.specs.WireTests.{all_zero}
-use Rattle.place.specs.Sound.{here}
+use Rattle.sound_table.specs.Here.{here}
 use Rattle.indexes.specs.Index.{walk, index_of_table}
 use Rattle.indexes.specs.Flat.{read_rows}
 use Rattle.indexes.specs.WalkWords.{walk-fits}
@@ -16,35 +13,40 @@ use Rattle.index_test.specs.Right.{all_right}
 use Rattle.index_test.specs.Verdict.{index-verdict}
 use Rattle.index_test.proofs.is_index.Goals as goal
 
+module _ (t : List ℕ) (ok : sound names_per_group t ≡ true) (index : List ℕ) (long : length index ≡ index_words names_per_group)
+    (n : ℕ) (many : n ≡ length (walk (here t).groups)) where
+  -- the rows have room in the index
+  room : row_words * n ≤ length index
+  room = omega (arith, walk-fits names_per_group t ok 0, many)
+
+  -- what the test of the words behind the rows says, and what that of the rows says, is the verdict
+  judged : (b : Bool) → b ≡ all_zero (take (length index - row_words * n) (drop (row_words * n) index))
+      → b && all_right 0 (read_rows n index) (walk (here t).groups) ≡ same index (index_of_table names_per_group t)
+  judged b e = rw (e ∙ ap all_zero (part_to_end index (row_words * n))) (index-verdict t index n ok long many)
+
 pub overflow_mul-used : goal.overflow_mul-used
-overflow_mul-used c = omega (arith, (let the : row_words * c.names_total-count.result ≤ length c.args.index.now = omega (arith, walk-fits names_per_group c.args.t.now c.requires.t_value 0, c.names_total-count.ensures) in the))
+overflow_mul-used c = omega (arith, room c.args.t.words.now c.args.t.fit c.args.index.now c.requires.index_len c.names_total-count.result c.names_total-count.ensures)
 
 pub offset_bounds-index-used : goal.offset_bounds-index-used
-offset_bounds-index-used c = omega (arith, (let the : row_words * c.names_total-count.result ≤ length c.args.index.now = omega (arith, walk-fits names_per_group c.args.t.now c.requires.t_value 0, c.names_total-count.ensures) in the))
+offset_bounds-index-used c = omega (arith, room c.args.t.words.now c.args.t.fit c.args.index.now c.requires.index_len c.names_total-count.result c.names_total-count.ensures)
 
 pub slice_bounds-all_zero-count : goal.slice_bounds-all_zero-count
-slice_bounds-all_zero-count c = omega (arith, (let the : row_words * c.names_total-count.result ≤ length c.args.index.now = omega (arith, walk-fits names_per_group c.args.t.now c.requires.t_value 0, c.names_total-count.ensures) in the))
+slice_bounds-all_zero-count c = room c.args.t.words.now c.args.t.fit c.args.index.now c.requires.index_len c.names_total-count.result c.names_total-count.ensures
 
 pub slice_bounds-all_zero-start : goal.slice_bounds-all_zero-start
-slice_bounds-all_zero-start c = omega (arith, (let the : row_words * c.names_total-count.result ≤ length c.args.index.now = omega (arith, walk-fits names_per_group c.args.t.now c.requires.t_value 0, c.names_total-count.ensures) in the))
-
-pub slice_bounds-all_zero-end : goal.slice_bounds-all_zero-end
-slice_bounds-all_zero-end c = omega (arith, (let the : row_words * c.names_total-count.result ≤ length c.args.index.now = omega (arith, walk-fits names_per_group c.args.t.now c.requires.t_value 0, c.names_total-count.ensures) in the))
+slice_bounds-all_zero-start c = room c.args.t.words.now c.args.t.fit c.args.index.now c.requires.index_len c.names_total-count.result c.names_total-count.ensures
 
 pub returns-then-not-all_zero : goal.returns-then-not-all_zero
-returns-then-not-all_zero c = (let the : false && all_right 0 (read_rows c.names_total-count.result c.args.index.now) (walk (here c.args.t.now).groups) ≡ same c.args.index.now (index_of_table names_per_group c.args.t.now) = let index = c.args.index.now in
-    let zeros : all_zero (drop (row_words * c.names_total-count.result) index) ≡ false = ap all_zero (sym (part_to_end index (row_words * c.names_total-count.result))) ∙ sym c.all_zero.ensures ∙ c.if-not-all_zero.true in
-    rw zeros at (index-verdict c.args.t.now index c.names_total-count.result c.requires.t_value c.requires.index_len c.names_total-count.ensures) in the)
-
-pub note_groups-requires : goal.note_groups-requires
-note_groups-requires c = record { t_len = c.requires.t_len; t_value = c.requires.t_value; slots_len = refl }
+returns-then-not-all_zero c =
+    judged c.args.t.words.now c.args.t.fit c.args.index.now c.requires.index_len c.names_total-count.result c.names_total-count.ensures false
+    (sym c.if-not-all_zero.true ∙ c.all_zero.ensures)
 
 pub rows_right-requires : goal.rows_right-requires
 rows_right-requires c =
-    record { t_len = c.requires.t_len; t_value = c.requires.t_value; slots_len = c.note_groups.auto.slots; count_in_bounds = (let the : row_words * c.names_total-count.result ≤ length c.args.index.now = omega (arith, walk-fits names_per_group c.args.t.now c.requires.t_value 0, c.names_total-count.ensures) in the) }
+    record { count_in_bounds = room c.args.t.words.now c.args.t.fit c.args.index.now c.requires.index_len c.names_total-count.result c.names_total-count.ensures }
 
 pub returns : goal.returns
 returns c =
-    c.rows_right.ensures ∙ (let the : true && all_right 0 (read_rows c.names_total-count.result c.args.index.now) (walk (here c.args.t.now).groups) ≡ same c.args.index.now (index_of_table names_per_group c.args.t.now) = let index = c.args.index.now in
-    let zeros : all_zero (drop (row_words * c.names_total-count.result) index) ≡ true = ap all_zero (sym (part_to_end index (row_words * c.names_total-count.result))) ∙ sym c.all_zero.ensures ∙ c.if-not-all_zero.false in
-    rw zeros at (index-verdict c.args.t.now index c.names_total-count.result c.requires.t_value c.requires.index_len c.names_total-count.ensures) in the)
+    c.rows_right.ensures
+    ∙ judged c.args.t.words.now c.args.t.fit c.args.index.now c.requires.index_len c.names_total-count.result c.names_total-count.ensures true
+    (sym c.if-not-all_zero.false ∙ c.all_zero.ensures)

@@ -1,9 +1,8 @@
 -- `index_test::rows_right` meets its contract. The loop's invariant: all rows are right if those from k on are, above the last key. Assumes nothing.
 use mathlib.Core.Path.{◌≡◌, sym, ◌∙◌}
 use mathlib.Core.Bool.{false}
-use native.Mathlib.Nat.{sub-zero}
 use native.Mathlib.Omega.{arith}
-use Rattle.place.specs.Sound.{here}
+use Rattle.sound_table.specs.Here.{here}
 use Rattle.indexes.specs.Index.{walk}
 use Rattle.indexes.specs.Flat.{read_rows}
 use Rattle.index_test.specs.Right.{all_right}
@@ -11,35 +10,26 @@ use Rattle.index_test.specs.Held.{unnamed}
 use Rattle.index_test.specs.Verdict.{wrong-key, wrong_row, right-row, all-looked-at}
 use Rattle.index_test.proofs.rows_right.Goals as goal
 
-pub loop-k-init : goal.loop-k-init
-loop-k-init c = (omega arith, simp sub-zero)
-
 pub returns-then-key-last : goal.returns-then-key-last
 returns-then-key-last c =
-    sym (c.loop-k.invariant.1 ∙ wrong-key c.args.index.now c.args.count c.requires.count_in_bounds _ c.loop-k.last c.loop-k.k c.loop-k-test.true c.if-key-last.true)
+    sym (c.loop-k.invariant ∙ wrong-key c.args.index.now c.args.count c.requires.count_in_bounds _ c.loop-k.last c.loop-k.k c.loop-k-test.true c.if-key-last.true)
 
 pub returns-then-name-eq0 : goal.returns-then-name-eq0
-returns-then-name-eq0 c = (let the : false ≡ all_right 0 (read_rows c.args.count c.args.index.now) (walk (here c.args.t.now).groups) = sym (c.loop-k.invariant.1 ∙ wrong_row c.args.index.now c.args.count c.requires.count_in_bounds _ c.loop-k.last c.loop-k.k c.loop-k-test.true (unnamed c.args.t.now c.requires.t_value _ (λ a b. omega arith))) in the)
+returns-then-name-eq0 c = (let the : false ≡ all_right 0 (read_rows c.args.count c.args.index.now) (walk (here c.args.t.words.now).groups) = sym (c.loop-k.invariant ∙ wrong_row c.args.index.now c.args.count c.requires.count_in_bounds _ c.loop-k.last c.loop-k.k c.loop-k-test.true (unnamed c.args.t.words.now c.args.t.fit _ (λ a b. omega arith))) in the)
 
 pub returns-then-name-ge-HALF_WORD : goal.returns-then-name-ge-HALF_WORD
-returns-then-name-ge-HALF_WORD c = (let the : false ≡ all_right 0 (read_rows c.args.count c.args.index.now) (walk (here c.args.t.now).groups) = sym (c.loop-k.invariant.1 ∙ wrong_row c.args.index.now c.args.count c.requires.count_in_bounds _ c.loop-k.last c.loop-k.k c.loop-k-test.true (unnamed c.args.t.now c.requires.t_value _ (λ a b. omega arith))) in the)
-
-pub has_row-requires : goal.has_row-requires
-has_row-requires c =
-    record { t_len = c.requires.t_len; t_value = c.requires.t_value; slots_len = c.requires.slots_len; name_nonzero = omega arith; name_lt_half_word = omega arith }
+returns-then-name-ge-HALF_WORD c = (let the : false ≡ all_right 0 (read_rows c.args.count c.args.index.now) (walk (here c.args.t.words.now).groups) = sym (c.loop-k.invariant ∙ wrong_row c.args.index.now c.args.count c.requires.count_in_bounds _ c.loop-k.last c.loop-k.k c.loop-k-test.true (unnamed c.args.t.words.now c.args.t.fit _ (λ a b. omega arith))) in the)
 
 pub returns-then-not-has_row : goal.returns-then-not-has_row
-returns-then-not-has_row c = (let the : false ≡ all_right 0 (read_rows c.args.count c.args.index.now) (walk (here c.args.t.now).groups) = sym (c.loop-k.invariant.1 ∙ wrong_row c.args.index.now c.args.count c.requires.count_in_bounds _ c.loop-k.last c.loop-k.k c.loop-k-test.true (sym c.has_row.ensures ∙ c.if-not-has_row.true)) in the)
+returns-then-not-has_row c = (let the : false ≡ all_right 0 (read_rows c.args.count c.args.index.now) (walk (here c.args.t.words.now).groups) = sym (c.loop-k.invariant ∙ wrong_row c.args.index.now c.args.count c.requires.count_in_bounds _ c.loop-k.last c.loop-k.k c.loop-k-test.true (sym c.has_row.ensures ∙ c.if-not-has_row.true)) in the)
 
 pub loop-k-preserved : goal.loop-k-preserved
-loop-k-preserved c = (
-  omega arith,
-  c.loop-k.invariant.1
-      ∙ right-row c.args.index.now c.args.count c.requires.count_in_bounds _ c.loop-k.last c.loop-k.k c.loop-k-test.true c.if-key-last.false
-      (sym c.has_row.ensures ∙ c.if-not-has_row.false),
-)
+loop-k-preserved c =
+    c.loop-k.invariant
+    ∙ right-row c.args.index.now c.args.count c.requires.count_in_bounds _ c.loop-k.last c.loop-k.k c.loop-k-test.true c.if-key-last.false
+    (sym c.has_row.ensures ∙ c.if-not-has_row.false)
 
 pub returns : goal.returns
 returns c =
     let a = c.args in
-    sym (c.loop-k.invariant.1 ∙ all-looked-at a.index.now a.count _ c.loop-k.last c.loop-k.k c.loop-k-test.false)
+    sym (c.loop-k.invariant ∙ all-looked-at a.index.now a.count _ c.loop-k.last c.loop-k.k c.loop-k-test.false)

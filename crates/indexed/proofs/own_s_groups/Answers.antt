@@ -1,21 +1,21 @@
 -- `indexed::own_s_groups` meets its contract: refused for its table or index, or the command's step. Assumes nothing.
 use Rattle.commands.specs.declared.Command.TheVariants.{OwnSGroups}
-use Rattle.inputs.proofs.Reasons.{not_done}
+use Rattle.inputs.proofs.Reasons.{passes}
 use Rattle.indexed.specs.Reasons.{index_there, tells-refused, tells-done}
 use Rattle.indexed.proofs.own_s_groups.Goals as goal
 
-pub returns-in_default : goal.returns-in_default
-returns-in_default c =
+pub returns-in-Err : goal.returns-in-Err
+returns-in-Err c =
     let a = c.args in
-    let both = tells-refused a.table.now a.index.now a.caller OwnSGroups a.out.now c.index_reason-reason.ensures c.refused.ensures (not_done c.index_reason-reason.result c.in_default.not-Done) in record { value = both.0; out_after = both.1 }
+    tells-refused a.table.now a.index.now a.caller OwnSGroups a.out.now c.check_index.ensures c.in-Err.is c.refused.ensures
 
-pub own_s_groups-requires : goal.own_s_groups-requires
-own_s_groups-requires c =
+pub invariant_of-own_s_groups : goal.invariant_of-own_s_groups
+invariant_of-own_s_groups c =
     let a = c.args in
-    let q = index_there a.table.now a.index.now c.index_reason-reason.ensures c.in-Done.is in
-    record { t_len = q.0; t_value = q.1.0 }
+    let q = index_there a.table.now a.index.now (passes c.check_index.ensures c.in_default.is) in
+    record { sized = q.t_len; fit = q.t_value }
 
 pub returns : goal.returns
 returns c =
     let a = c.args in
-    let both = tells-done a.table.now a.index.now a.caller OwnSGroups a.out.now c.index_reason-reason.ensures c.in-Done.is (c.own_s_groups.ensures.value, c.own_s_groups.ensures.out_after) in record { value = both.0; out_after = both.1 }
+    tells-done a.table.now a.index.now a.caller OwnSGroups a.out.now c.check_index.ensures c.in_default.is c.own_s_groups.ensures

@@ -2,30 +2,26 @@
 use mathlib.Core.Path.{sym, ap, ◌∙◌}
 use native.Mathlib.Omega.{arith}
 use Rattle.semantics.specs.Table.{state_of}
-use Rattle.place.specs.Sound.{here, sought-here, members-here}
-use Rattle.place.specs.declared.Place.TheVariants.{At, Gap}
+use Rattle.place.specs.Sound.{here, sought-here, lent-below, lent-members}
+use Rattle.std.specs.Prelude.{Ok}
 use Rattle.indexes.specs.Updates.{leaving}
-use Rattle.indexing.specs.Found.{leaving-all, leaving-some, found_below}
+use Rattle.indexing.specs.Found.{leaving-all, leaving-some, found_below, no-seat}
 use Rattle.indexing.proofs.leaving.Goals as goal
 
-pub overflow_add-members : goal.overflow_add-members
-overflow_add-members c = omega (arith, (found_below c.args.t.now c.requires.t_value ((sought-here c.args.t.now c.requires.t_value c.args.s c.place_of.result (At c.in-At.at) c.place_of.ensures c.in-At.is))))
+pub offset_bounds-members-at : goal.offset_bounds-members-at
+offset_bounds-members-at c = omega (arith, found_below c.args.t.words.now c.args.t.fit (sought-here c.args.t.words.now c.args.t.fit c.args.s c.place_of.result (Ok c.in-Ok.at) c.place_of.ensures c.in-Ok.is))
 
-pub offset_bounds-t-at : goal.offset_bounds-t-at
-offset_bounds-t-at c = omega (arith, (found_below c.args.t.now c.requires.t_value ((sought-here c.args.t.now c.requires.t_value c.args.s c.place_of.result (At c.in-At.at) c.place_of.ensures c.in-At.is))))
-
-pub bounds-t-at : goal.bounds-t-at
-bounds-t-at c = omega (arith, (found_below c.args.t.now c.requires.t_value ((sought-here c.args.t.now c.requires.t_value c.args.s c.place_of.result (At c.in-At.at) c.place_of.ensures c.in-At.is))), c.requires.t_len)
+pub bounds-members-at : goal.bounds-members-at
+bounds-members-at c = lent-below c.args.t.words.now c.args.t.fit (sought-here c.args.t.words.now c.args.t.fit c.args.s c.place_of.result (Ok c.in-Ok.at) c.place_of.ensures c.in-Ok.is) c.members.ensures
 
 pub returns-then-diff-eq0 : goal.returns-then-diff-eq0
 unfolding state_of
-returns-then-diff-eq0 c = c.roster.ensures ∙ leaving-all (here c.args.t.now).groups c.args.set ((sought-here c.args.t.now c.requires.t_value c.args.s c.place_of.result (At c.in-At.at) c.place_of.ensures c.in-At.is)) (rw (← (members-here c.args.t.now c.requires.t_value c.in-At.at ((found_below c.args.t.now c.requires.t_value ((sought-here c.args.t.now c.requires.t_value c.args.s c.place_of.result (At c.in-At.at) c.place_of.ensures c.in-At.is)))))) (sym c.diff.ensures ∙ c.if-diff-eq0.true))
+returns-then-diff-eq0 c = c.roster.ensures ∙ leaving-all (here c.args.t.words.now).groups c.args.set ((sought-here c.args.t.words.now c.args.t.fit c.args.s c.place_of.result (Ok c.in-Ok.at) c.place_of.ensures c.in-Ok.is)) (rw (← (lent-members c.args.t.words.now c.args.t.fit (sought-here c.args.t.words.now c.args.t.fit c.args.s c.place_of.result (Ok c.in-Ok.at) c.place_of.ensures c.in-Ok.is) c.members.ensures)) (sym c.diff.ensures ∙ c.if-diff-eq0.true))
 
-pub returns-else-diff-eq0 : goal.returns-else-diff-eq0
+pub returns : goal.returns
 unfolding state_of
-returns-else-diff-eq0 c = c.inter.ensures ∙ rw ((members-here c.args.t.now c.requires.t_value c.in-At.at ((found_below c.args.t.now c.requires.t_value ((sought-here c.args.t.now c.requires.t_value c.args.s c.place_of.result (At c.in-At.at) c.place_of.ensures c.in-At.is)))))) (leaving-some (here c.args.t.now).groups c.args.set ((sought-here c.args.t.now c.requires.t_value c.args.s c.place_of.result (At c.in-At.at) c.place_of.ensures c.in-At.is)) (λ e. c.if-diff-eq0.false (c.diff.ensures ∙ rw ((members-here c.args.t.now c.requires.t_value c.in-At.at ((found_below c.args.t.now c.requires.t_value ((sought-here c.args.t.now c.requires.t_value c.args.s c.place_of.result (At c.in-At.at) c.place_of.ensures c.in-At.is)))))) e)))
+returns c = c.inter.ensures ∙ rw ((lent-members c.args.t.words.now c.args.t.fit (sought-here c.args.t.words.now c.args.t.fit c.args.s c.place_of.result (Ok c.in-Ok.at) c.place_of.ensures c.in-Ok.is) c.members.ensures)) (leaving-some (here c.args.t.words.now).groups c.args.set ((sought-here c.args.t.words.now c.args.t.fit c.args.s c.place_of.result (Ok c.in-Ok.at) c.place_of.ensures c.in-Ok.is)) (λ e. c.if-diff-eq0.false (c.diff.ensures ∙ rw ((lent-members c.args.t.words.now c.args.t.fit (sought-here c.args.t.words.now c.args.t.fit c.args.s c.place_of.result (Ok c.in-Ok.at) c.place_of.ensures c.in-Ok.is) c.members.ensures)) e)))
 
-pub returns-in-Gap : goal.returns-in-Gap
+pub returns-in_default : goal.returns-in_default
 unfolding state_of
-returns-in-Gap c = let w = sought-here c.args.t.now c.requires.t_value c.args.s c.place_of.result (Gap c.in-Gap.field-0) c.place_of.ensures c.in-Gap.is in
-    sym (ap (leaving c.args.set) w.finds)
+returns-in_default c = sym (ap (leaving c.args.set) (no-seat c.args.t.words.now c.args.t.fit c.args.s c.place_of.result c.place_of.ensures c.in_default.not-Ok))

@@ -1,30 +1,35 @@
 -- `launch_expected::fitting` meets its contract: the set is that of the bytes tried.
 -- Assumes nothing.
-use borrow.Author.Rules.{rules}
-use mathlib.Core.Path.{ap, ◌∙◌}
-use native.Mathlib.Omega.{arith}
-use Rattle.launch_expected.specs.Following.{following}
+use Rattle.std.proofs.Common.{◌≡◌, ◌<◌, refl, ap, ◌∙◌, arith, rules, [], ◌∷◌, ℕ, get_or, length, min, length-take}
+use Rattle.std.proofs.lemmas.List.{get_or-take}
+use Rattle.launch_expected.specs.Following.{follows, following}
 use Rattle.launch_expected.specs.Tried.{with_byte, without-byte}
 use Rattle.launch_expected.proofs.fitting.Goals as goal
 use Rattle.launch_expected.proofs.fitting.Goals.{then-fits, else-fits}
 
 pub loop-i-init : goal.loop-i-init
 unfolding following
-loop-i-init c = search rules
+loop-i-init c = record { same_length = refl; same_front = refl; found = refl }
 
-pub returns-then-bytes-to : goal.returns-then-bytes-to
-returns-then-bytes-to c = let v = c.loop-i.invariant in record { value = v.4 ∙ ap (following _ _ _) (omega arith); room_unchanged = v.3 }
+pub overflow_cast-i : goal.overflow_cast-i
+overflow_cast-i c = omega (arith, ap length c.front-tried.ensures, length-take 64 c.args.bytes.now)
 
 pub loop-i-preserved : goal.loop-i-preserved
 loop-i-preserved c =
     let v = c.loop-i.invariant in
-    let f = c.fits.ensures in (
-      search rules,
-      search rules,
-      search rules,
-      f.room_unchanged ∙ v.3,
-      elim c.if-fits.branch [ then-fits w ↦ with_byte _ _ _ _ _ (omega arith) v.2 v.3 _ f.value _ v.4 w.if-fits.true _ (w.set-is ∙ w.with-set.ensures) | else-fits w ↦ w.set-is ∙ without-byte _ _ _ _ _ (omega arith) v.2 v.3 _ f.value _ v.4 w.if-fits.false ],
-    )
+    let f = c.fits.ensures in
+    let h : c.loop-i.i < 64 = omega (arith, c.loop-i-test.true, ap length c.front-tried.ensures, length-take 64 c.args.bytes.now) in
+    let b : get_or c.front-tried.result.now c.loop-i.i 0 ≡ get_or c.args.bytes.now c.loop-i.i 0 =
+    ap (λ t. get_or t c.loop-i.i 0) c.front-tried.ensures ∙ get_or-take 64 c.args.bytes.now c.loop-i.i 0 h in
+    let e = f.value ∙ ap (λ (x : ℕ). follows c.loop-i.room c.args.place (x ∷ [])) b in
+    record {
+      same_length = search rules;
+      same_front = f.room_unchanged ∙ v.same_front;
+      found = elim c.if-fits.branch [ then-fits w ↦ with_byte _ _ _ _ _ v.same_length v.same_front _ e _ v.found w.if-fits.true _ (w.set-is ∙ w.with-set.ensures) | else-fits w ↦ w.set-is ∙ without-byte _ _ _ _ _ v.same_length v.same_front _ e _ v.found w.if-fits.false ];
+    }
 
 pub returns : goal.returns
-returns c = let v = c.loop-i.invariant in record { value = v.4 ∙ ap (following _ _ _) (omega arith); room_unchanged = v.3 }
+returns c =
+    let v = c.loop-i.invariant in
+    let k : c.loop-i.i ≡ min 64 (length c.args.bytes.now) = omega (arith, c.loop-i-test.false, ap length c.front-tried.ensures, length-take 64 c.args.bytes.now) in
+    record { value = v.found ∙ ap (following _ _ _) k; room_unchanged = v.same_front }

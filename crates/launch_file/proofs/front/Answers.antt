@@ -1,13 +1,18 @@
 -- `launch_file::front` meets its contract: the own entry of the file's list leads to the kernel entry, and that list's to the groups. Assumes nothing.
-use mathlib.Core.Path.{sym}
+use Rattle.std.proofs.Common.{sym}
+use Rattle.std.proofs.lemmas.Result.{err_from_is_err_and}
 use Rattle.launch_file.specs.Lists.{front_cut, front-stops, front_read}
 use Rattle.launch_file.proofs.front.Goals as goal
 
-pub returns-in-Stop : goal.returns-in-Stop
-returns-in-Stop c = front_cut _ _ (sym c.in-Stop.ensures)
+pub returns-in_err-pairs : goal.returns-in_err-pairs
+returns-in_err-pairs c =
+    let p = err_from_is_err_and c.from_residual.result c.from_residual.ensures.1 in
+    rw (p.1, p.2) (front_cut _ _ (sym c.in_err-pairs.ensures))
 
-pub returns-in-Stop-to_own : goal.returns-in-Stop-to_own
-returns-in-Stop-to_own c = front-stops _ _ (sym c.in-Past.ensures) _ c.in-Stop-to_own.ensures
+pub returns-in_err-entry : goal.returns-in_err-entry
+returns-in_err-entry c =
+    let p = err_from_is_err_and c.from_residual-in_err-entry.result c.from_residual-in_err-entry.ensures.1 in
+    rw (p.1, p.2) (front-stops _ _ (sym c.in_ok-pairs.ensures) _ c.in_err-entry.ensures)
 
-pub returns-in-Past-to_own : goal.returns-in-Past-to_own
-returns-in-Past-to_own c = front_read _ _ (sym c.in-Past.ensures) _ c.in-Past-to_own.ensures c.to_own-in-Past-to_own.result c.to_own-in-Past-to_own.ensures
+pub returns : goal.returns
+returns c = front_read _ _ (sym c.in_ok-pairs.ensures) _ c.in_ok-entry.ensures _ c.to_own-2.ensures

@@ -1,25 +1,28 @@
 -- `launch_file::next_pair` meets its contract: what stands in the list decides. Assumes nothing.
 use borrow.Author.Rules.{part_to_end}
-use mathlib.Core.Path.{sym}
-use native.Mathlib.Omega.{arith}
+use Rattle.std.proofs.Common.{Ok, sym, ap, ◌∙◌, arith}
+use Rattle.std.proofs.lemmas.Result.{err_from_is_err_and}
 use Rattle.launch_file.specs.Pairs.{next-stops, next-pairs, next-closed, next-missing, closed-within}
 use Rattle.launch_file.proofs.next_pair.Goals as goal
 
-pub overflow_sub-bracket : goal.overflow_sub-bracket
-overflow_sub-bracket c =
-    let a = c.args in
-    omega (arith, closed-within _ _ _ a.own.now a.found _ (rw (part_to_end c.args.text.now 0) at (sym c.in-Closed.ensures)))
+pub returns-in_err-n : goal.returns-in_err-n
+returns-in_err-n c =
+    let p = err_from_is_err_and c.from_residual.result c.from_residual.ensures.1 in
+    rw (p.1, p.2) (next-stops _ _ _ _ _ _ (rw (part_to_end c.args.text.now 0) at (sym c.in_err-n.ensures)))
 
-pub returns-then-found : goal.returns-then-found
-returns-then-found c = next-closed _ _ _ _ _ _ (rw (part_to_end c.args.text.now 0) at (sym c.in-Closed.ensures)) c.if-found.true
+pub overflow_sub-result : goal.overflow_sub-result
+overflow_sub-result c =
+    let a = c.args in
+    omega (arith, closed-within _ _ _ a.own.now a.found _ (rw (part_to_end a.text.now 0) at (sym c.in_ok-n.ensures ∙ ap Ok c.in-Closed-2.is)))
 
 pub returns-in-Group : goal.returns-in-Group
 returns-in-Group c =
     let a = c.args in
-    next-pairs _ _ _ _ _ _ (rw (part_to_end c.args.text.now 0) at (sym c.in-Group.ensures)) _ (rw (part_to_end a.text.now 0, part_to_end a.own.now 0) at c.pair_at.ensures)
+    next-pairs _ _ _ _ _ _ (rw (part_to_end a.text.now 0) at (sym c.in_ok-n.ensures ∙ ap Ok c.in-Group.is)) _
+    (rw (part_to_end a.text.now 0, part_to_end a.own.now 0) at c.pair_at.ensures)
 
-pub returns-in-Stop : goal.returns-in-Stop
-returns-in-Stop c = next-stops _ _ _ _ _ _ (rw (part_to_end c.args.text.now 0) at (sym c.in-Stop.ensures))
+pub returns-in-Closed : goal.returns-in-Closed
+returns-in-Closed c = next-closed _ _ _ _ _ _ (rw (part_to_end c.args.text.now 0) at (sym c.in_ok-n.ensures ∙ ap Ok c.in-Closed.is)) c.if-found.true
 
-pub returns-else-found : goal.returns-else-found
-returns-else-found c = next-missing _ _ _ _ _ _ (rw (part_to_end c.args.text.now 0) at (sym c.in-Closed.ensures)) c.if-found.false
+pub returns-in-Closed-2 : goal.returns-in-Closed-2
+returns-in-Closed-2 c = next-missing _ _ _ _ _ _ (rw (part_to_end c.args.text.now 0) at (sym c.in_ok-n.ensures ∙ ap Ok c.in-Closed.is)) c.if-found.false

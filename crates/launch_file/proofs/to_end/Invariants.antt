@@ -7,8 +7,8 @@ use Rattle.launch_file.specs.Reading.{list_of}
 use Rattle.launch_file.specs.Lists.{Reached}
 use Rattle.launch_file.proofs.to_end.Given as goal
 
-abbrev pub invariant-loop-p : goal.invariant-loop-p
-invariant-loop-p l = Reached (list_of l.own true) next_pair l.text l.at next_pair l.j
+abbrev pub invariant-loop-n : goal.invariant-loop-n
+invariant-loop-n l = Reached (list_of l.own true) next_pair l.text l.at next_pair l.j
 
-abbrev pub decreases-loop-p : goal.decreases-loop-p
-decreases-loop-p l = length l.text - l.j
+abbrev pub decreases-loop-n : goal.decreases-loop-n
+decreases-loop-n l = length l.text - l.j

@@ -1,22 +1,25 @@
 -- `launch_file::to_own` meets its contract: each pair is one turn, and the list does not end in front of its own pair. Assumes nothing.
-use native.Mathlib.Omega.{arith}
-use Rattle.launch_file.specs.Lists.{reached-here, reached-other, own-stops, own_open, own-entered}
+use Rattle.std.proofs.Common.{arith}
+use Rattle.std.proofs.lemmas.Result.{err_from_is_err_and}
+use Rattle.launch_file.specs.Lists.{reached-here, reached-other, own-stops, own-entered, own_open}
 use Rattle.launch_file.proofs.to_own.Goals as goal
 
-pub loop-p-init : goal.loop-p-init
-loop-p-init c = reached-here _ _ _ _
+pub loop-n-init : goal.loop-n-init
+loop-n-init c = reached-here _ _ _ _
 
-pub returns-in-Stop : goal.returns-in-Stop
-returns-in-Stop c = own-stops _ _ _ _ _ c.loop-p.invariant _ c.in-Stop.ensures
-
-pub returns-in-Closed : goal.returns-in-Closed
-returns-in-Closed c = own_open _ _ _ _ _ _ c.in-Closed.ensures
+pub returns-in_err-n : goal.returns-in_err-n
+returns-in_err-n c =
+    let p = err_from_is_err_and c.from_residual.result c.from_residual.ensures.1 in
+    rw (p.1, p.2) (own-stops _ _ _ _ _ c.loop-n.invariant _ c.in_err-n.ensures)
 
 pub returns-in-Own : goal.returns-in-Own
-returns-in-Own c = own-entered _ _ _ _ _ c.loop-p.invariant _ c.in-Own.ensures
+returns-in-Own c = own-entered _ _ _ _ _ c.loop-n.invariant _ (rw c.in-Own.is at c.in_ok-n.ensures)
 
-pub loop-p-smaller : goal.loop-p-smaller
-loop-p-smaller c = let a = c.in-Other.ensures.on in omega arith
+pub returns-in-Closed : goal.returns-in-Closed
+returns-in-Closed c = own_open _ _ _ _ _ _ (rw c.in-Closed.is at c.in_ok-n.ensures)
 
-pub loop-p-preserved : goal.loop-p-preserved
-loop-p-preserved c = reached-other _ _ _ _ _ _ c.loop-p.invariant _ _ c.in-Other.ensures
+pub loop-n-smaller : goal.loop-n-smaller
+loop-n-smaller c = let a = rw c.in-Other.is at c.in_ok-n.ensures in omega (arith, a.on)
+
+pub loop-n-preserved : goal.loop-n-preserved
+loop-n-preserved c = reached-other _ _ _ _ _ _ c.loop-n.invariant _ _ (rw c.in-Other.is at c.in_ok-n.ensures)

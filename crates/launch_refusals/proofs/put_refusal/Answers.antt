@@ -1,10 +1,6 @@
 -- `launch_refusals::put_refusal` meets its contract.
 -- Assumes nothing.
-use borrow.Author.Rules.{rules}
-use mathlib.Core.Path.{ap, ◌∙◌}
-use Prim.Native.Nat.{◌-◌}
-use native.Mathlib.Omega.{arith}
-use lib.ListN.{length}
+use Rattle.std.proofs.Common.{ap, ◌∙◌, ◌-◌, arith, rules, length}
 use Rattle.print.specs.Sheets.{put}
 use Rattle.refusal_head.specs.Begins.{same_head, said-begins}
 use Rattle.print.specs.Putting.{stays_within}
@@ -23,4 +19,4 @@ pub returns : goal.returns
 returns c =
     let h = c.put_head-p in
     let e = h.ensures ∙ ap (put _) (same_head _ _ _ _ _ _ _ c.is_slip-slip.ensures c.front.ensures) in
-    said-begins _ h.new.out h.result _ e c.put_why-why.new.out (length h.new.out - h.result) c.least.result (omega arith) (search rules)
+    said-begins _ h.new.out h.result _ e c.put_why-why.new.out (length h.new.out - h.result) _ (omega arith) (search rules)

@@ -1,16 +1,12 @@
--- `launch_report::put_groups` meets its contract: all lines behind what was there is what is left of them behind what is there now.
+-- `launch_report::put_groups` meets its contract: the lines of the s_groups that are left are still to be put.
 -- Assumes nothing.
-use mathlib.Core.Path.{◌≡◌}
-use Prim.Native.Nat.{◌≤◌, ◌-◌}
-use lib.ListN.{length, drop}
-use Rattle.print.specs.Sheets.{sheet, put}
+use Rattle.std.proofs.Common.{length, drop}
+use Rattle.print.specs.Puts.{Leaves}
 use Rattle.launch_report.specs.Launched.{group_lines}
 use Rattle.launch_report.specs.Telling.{bare}
 use Rattle.launch_report.proofs.put_groups.Given as goal
 
-abbrev pub invariant-loop-i : goal.invariant-loop-i
-invariant-loop-i l =
-    (l.i ≤ length l.contents) × (length l.out ≡ length l.initial.out) × (put (sheet l.initial.out l.at) (group_lines l.book l.n (bare l.contents l.members)) ≡ put (sheet l.out l.p) (group_lines l.book l.n (bare (drop l.i l.contents) (drop l.i l.members))))
-
-abbrev pub decreases-loop-i : goal.decreases-loop-i
-decreases-loop-i l = length l.contents - l.i
+abbrev pub invariant-loop-word : goal.invariant-loop-word
+invariant-loop-word l =
+    let i = length l.yielded in
+    Leaves l.initial.printer l.printer (group_lines l.book l.n (bare l.contents l.members)) (group_lines l.book l.n (bare (drop i l.contents) (drop i l.members)))

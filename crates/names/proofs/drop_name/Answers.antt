@@ -1,34 +1,35 @@
 -- `names::drop_name` meets its contract: the words without the name, and the count in the contents word where it was held.
 -- Assumes nothing.
-use mathlib.Core.Path.{refl, sym, ◌∙◌}
-use native.Mathlib.Omega.{arith}
-use Prim.Native.Nat.{◌+◌, ◌*◌}
-use Rattle.entries.specs.Entries.{lookup}
-use Rattle.semantics.specs.Sizes.{names_per_group, bodies_at}
-use Rattle.names.specs.NamesAt.{counted, names_at}
-use Rattle.names.specs.NamesHere.{changed-here, dropped-here, not-dropped-here, some-name}
-use Rattle.names.proofs.Changes.{was-held, was-absent}
+use Rattle.std.proofs.Common.{sym, ap, ◌∙◌, arith}
+use Rattle.std.specs.Prelude.{is_ok}
+use Rattle.names.specs.NamesHere.{dropped-here, not-dropped-here, some-name}
+use Rattle.names.proofs.Changes.{told-held}
 use Rattle.names.proofs.drop_name.Goals as goal
 
 pub overflow_sub-t : goal.overflow_sub-t
 overflow_sub-t c =
-    let a = c.args in
-    omega (arith, some-name (counted a.at a.t.now) a.n _ (sym c.drop_name.ensures.value ∙ c.in-Done.is))
+    omega (arith, c.names_count-count.ensures, some-name c.names_count-count.result c.args.n _ (ap is_ok (sym c.drop_name.ensures.value) ∙ sym c.is_ok-dropped.ensures.value ∙ c.if-dropped.true))
 
-pub returns-in-Done : goal.returns-in-Done
-returns-in-Done c =
-    let a = c.args in record {
-      value = λ st l w. was-held c.drop_name.result (lookup a.n (names_at a.at st)) (c.drop_name.ensures.value ∙ changed-here l a.at w (bodies_at + names_per_group * a.at) (bodies_at + names_per_group * a.at + names_per_group) refl refl a.n) c.in-Done.is;
-      laid = λ st l w.
-          let h = was-held c.drop_name.result (lookup a.n (names_at a.at st)) (c.drop_name.ensures.value ∙ changed-here l a.at w (bodies_at + names_per_group * a.at) (bodies_at + names_per_group * a.at + names_per_group) refl refl a.n) c.in-Done.is in
-          dropped-here l a.at w (bodies_at + names_per_group * a.at) (bodies_at + names_per_group * a.at + names_per_group) refl refl c.drop_name.new.ns c.drop_name.auto.ns a.n c.drop_name.ensures.ns_after (sym h);
-    }
+pub returns-then-dropped-clause-value : goal.returns-then-dropped-clause-value
+returns-then-dropped-clause-value c =
+    λ st l w. c.is_ok-dropped.ensures.value
+    ∙ told-held l c.args.at w _ _ c.own_words.ensures.start c.own_words.ensures.end c.names_count-count.result c.args.n c.names_count-count.ensures c.drop_name.result c.drop_name.ensures.value
 
-pub returns-in_default : goal.returns-in_default
-returns-in_default c =
-    let a = c.args in record {
-      value = λ st l w. was-absent c.drop_name.result (lookup a.n (names_at a.at st)) (c.drop_name.ensures.value ∙ changed-here l a.at w (bodies_at + names_per_group * a.at) (bodies_at + names_per_group * a.at + names_per_group) refl refl a.n) c.in_default.not-Done;
-      laid = λ st l w.
-          let h = was-absent c.drop_name.result (lookup a.n (names_at a.at st)) (c.drop_name.ensures.value ∙ changed-here l a.at w (bodies_at + names_per_group * a.at) (bodies_at + names_per_group * a.at + names_per_group) refl refl a.n) c.in_default.not-Done in
-          not-dropped-here l a.at w (bodies_at + names_per_group * a.at) (bodies_at + names_per_group * a.at + names_per_group) refl refl c.drop_name.new.ns c.drop_name.auto.ns a.n c.drop_name.ensures.ns_after (sym h);
-    }
+pub returns-then-dropped-clause-laid : goal.returns-then-dropped-clause-laid
+returns-then-dropped-clause-laid c =
+    λ st l w. dropped-here l c.args.at w _ _ c.own_words.ensures.start c.own_words.ensures.end c.drop_name.new.ns c.drop_name.auto.ns c.args.n
+    (rw c.names_count-count.ensures at c.drop_name.ensures.ns_after)
+    (sym (told-held l c.args.at w _ _ c.own_words.ensures.start c.own_words.ensures.end c.names_count-count.result c.args.n c.names_count-count.ensures c.drop_name.result c.drop_name.ensures.value)
+    ∙ sym c.is_ok-dropped.ensures.value ∙ c.if-dropped.true)
+
+pub returns-else-dropped-clause-value : goal.returns-else-dropped-clause-value
+returns-else-dropped-clause-value c =
+    λ st l w. c.is_ok-dropped.ensures.value
+    ∙ told-held l c.args.at w _ _ c.own_words.ensures.start c.own_words.ensures.end c.names_count-count.result c.args.n c.names_count-count.ensures c.drop_name.result c.drop_name.ensures.value
+
+pub returns-else-dropped-clause-laid : goal.returns-else-dropped-clause-laid
+returns-else-dropped-clause-laid c =
+    λ st l w. not-dropped-here l c.args.at w _ _ c.own_words.ensures.start c.own_words.ensures.end c.drop_name.new.ns c.drop_name.auto.ns c.args.n
+    (rw c.names_count-count.ensures at c.drop_name.ensures.ns_after)
+    (sym (told-held l c.args.at w _ _ c.own_words.ensures.start c.own_words.ensures.end c.names_count-count.result c.args.n c.names_count-count.ensures c.drop_name.result c.drop_name.ensures.value)
+    ∙ sym c.is_ok-dropped.ensures.value ∙ c.if-dropped.false)

@@ -1,12 +1,8 @@
 -- `names::find_name` meets its contract: the words of the s_group are those of its names.
 -- Assumes nothing.
-use mathlib.Core.Path.{refl, ◌∙◌}
-use Prim.Native.Nat.{◌+◌, ◌*◌}
-use Rattle.semantics.specs.Sizes.{names_per_group, bodies_at}
+use Rattle.std.proofs.Common.{◌∙◌}
 use Rattle.names.specs.NamesHere.{found_here}
 use Rattle.names.proofs.find_name.Goals as goal
 
 pub returns : goal.returns
-returns c =
-    let a = c.args in
-    λ st l w. c.find.ensures ∙ found_here l a.at w (bodies_at + names_per_group * a.at) (bodies_at + names_per_group * a.at + names_per_group) refl refl a.n
+returns c = λ st l w. c.find.ensures ∙ rw c.names_count.ensures (found_here l c.args.at w _ _ c.own_words.ensures.start c.own_words.ensures.end c.args.n)

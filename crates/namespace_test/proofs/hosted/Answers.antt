@@ -1,7 +1,6 @@
 -- `namespace_test::hosted` meets its contract: what was right so far, with the hosts of the entries to come, is the test of all, and every pid has one of all nodes for its host.
 -- Assumes nothing.
 use native.Mathlib.Omega.{arith}
-use native.Mathlib.Nat.{sub-zero}
 use mathlib.Core.Path.{◌≡◌, refl, sym, ◌∙◌}
 use mathlib.Core.List.{List, [], ◌∷◌}
 use mathlib.Core.Bool.{Bool, true, ◌&&◌, and_assoc, and-true}
@@ -9,6 +8,8 @@ use Prim.Native.Nat.{ℕ, zero, suc, ◌+◌, ◌%◌, ◌≤◌, ◌<◌}
 use lib.ListN.{length, get_or}
 use lib.Dec.{ltb}
 use borrow.Author.Tests.{lt-ltb}
+use Rattle.std.proofs.Common.{length-take-le}
+use Rattle.std.proofs.lemmas.List.{get_or-take}
 use Rattle.nodes.specs.Sets.{node_limit}
 use Rattle.entries.specs.Entries.{half_word, host, entries}
 use Rattle.entries.specs.NamespaceSound.{is_hosted}
@@ -36,17 +37,15 @@ returns-then-size-ge-NODE_LIMIT c =
     let a = c.args in
     sym (all-hosted a.size a.count a.ns.now c.if-size-ge-NODE_LIMIT.true)
 
-pub loop-i-init : goal.loop-i-init
-loop-i-init c = (omega arith, simp sub-zero)
-
-pub loop-i-preserved : goal.loop-i-preserved
-loop-i-preserved c =
-    let v = c.loop-i in
+pub loop-word-preserved : goal.loop-word-preserved
+loop-word-preserved c =
+    let v = c.loop-word in
     let a = c.args in
-    (omega arith, turn a.count a.size v.i v.right a.ns.now (omega arith) (omega arith) ∙ v.invariant.1)
+    let inside : v.word-index < a.count = omega (arith, length-take-le a.count a.ns.now c.requires) in
+    rw (c.host_of.ensures, c.pid_of.ensures, get_or-take a.count a.ns.now v.word-index 0) (turn a.count a.size v.word-index v.right a.ns.now inside (omega arith) ∙ v.invariant)
 
 pub returns : goal.returns
 returns c =
-    let v = c.loop-i in
+    let v = c.loop-word in
     let a = c.args in
-    sym (ends a.count a.size v.i v.right a.ns.now (omega arith)) ∙ v.invariant.1
+    sym (ends a.count a.size v.word-index v.right a.ns.now (omega (arith, length-take-le a.count a.ns.now c.requires))) ∙ v.invariant

@@ -2,14 +2,10 @@
 -- Assumes nothing.
 use mathlib.Core.Path.{◌≡◌}
 use mathlib.Core.Bool.{◌&&◌}
-use Prim.Native.Nat.{◌-◌, ◌≤◌}
 use Rattle.entries.specs.Entries.{entries}
 use Rattle.entries.specs.NamespaceSound.{is_hosted}
 use Rattle.entries.specs.Storage.{rest}
 use Rattle.namespace_test.proofs.hosted.Given as goal
 
-abbrev pub invariant-loop-i : goal.invariant-loop-i
-invariant-loop-i l = (l.i ≤ l.count) × (l.right && is_hosted l.size (rest l.i l.count l.ns) ≡ is_hosted l.size (entries l.count l.ns))
-
-abbrev pub decreases-loop-i : goal.decreases-loop-i
-decreases-loop-i l = l.count - l.i
+abbrev pub invariant-loop-word : goal.invariant-loop-word
+invariant-loop-word l = l.right && is_hosted l.size (rest l.word-index l.count l.ns) ≡ is_hosted l.size (entries l.count l.ns)

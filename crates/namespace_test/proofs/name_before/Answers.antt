@@ -14,4 +14,4 @@ returns-then-i-eq0 c =
 pub returns : goal.returns
 returns c =
     let a = c.args in
-    sym (name-later a.i a.ns.now (omega arith))
+    c.name_of.ensures ∙ sym (name-later a.i a.ns.now (omega arith))

@@ -1,35 +1,30 @@
 -- `naming::unregister_name` meets its contract: refused by its arguments, denied by its place, or settled in its s_group.
 -- Assumes nothing.
-use native.Mathlib.Omega.{arith}
 use Rattle.semantics.specs.Table.{state_of}
 use Rattle.returns.specs.Judged.{step-unregister}
-use Rattle.place.specs.Sound.{here, regular, base, nodes-few}
+use Rattle.place.specs.Sound.{here, regular, base}
 use Rattle.returns.specs.Ends.{open-below, opened, says-refused, says-denied, says-settled}
-use Rattle.inputs.proofs.Reasons.{not_done}
 use Rattle.naming.proofs.unregister_name.Goals as goal
 
-pub overflow_cast-size : goal.overflow_cast-size
-overflow_cast-size c = omega (arith, nodes-few c.args.t.now c.requires.t_value)
-
-pub returns-in_default : goal.returns-in_default
+pub returns-in-Err : goal.returns-in-Err
 unfolding state_of
-returns-in_default c =
-    rw c.refused.ensures (let both = says-refused c.args.t.now c.requires.t_value (step-unregister 0 c.args.caller (here c.args.t.now) c.args.s c.args.n) c.name_reason-reason.ensures
-    (not_done c.name_reason-reason.result c.in_default.not-Done) in record { value = both.0; t_after = both.1 })
+returns-in-Err c =
+    rw c.refused.ensures (says-refused c.args.t.now c.requires.t_value (step-unregister 0 c.args.caller (here c.args.t.now) c.args.s c.args.n) (rw c.size-size.ensures.value at c.check_name.ensures)
+    c.in-Err.is)
 
 pub unregister_in-requires : goal.unregister_in-requires
 unregister_in-requires c =
-    record { t_len = c.requires.t_len; at_lt_group_limit = open-below c.args.t.now c.requires.t_value ((opened c.args.t.now c.requires.t_value c.args.caller c.args.s c.place_for.result c.place_for.ensures c.in-Member.is)) }
+    record { t_len = c.requires.t_len; at_lt_group_limit = open-below c.args.t.now c.requires.t_value ((opened c.args.t.now c.requires.t_value c.args.caller c.args.s c.place_for.result c.place_for.ensures c.in-Ok.is)) }
 
-pub returns-in-Member : goal.returns-in-Member
+pub returns-in-Ok : goal.returns-in-Ok
 unfolding state_of
-returns-in-Member c =
+returns-in-Ok c =
     let t = c.args.t.now in
-    let both = says-settled t c.requires.t_value (step-unregister 0 c.args.caller (here c.args.t.now) c.args.s c.args.n) c.name_reason-reason.ensures c.in-Done.is ((opened c.args.t.now c.requires.t_value c.args.caller c.args.s c.place_for.result c.place_for.ensures c.in-Member.is))
-    (c.unregister_in.ensures (here t) (base t c.requires.t_value) (regular t c.requires.t_value) c.args.s ((opened c.args.t.now c.requires.t_value c.args.caller c.args.s c.place_for.result c.place_for.ensures c.in-Member.is)).seat) in record { value = both.0; t_after = both.1 }
+    says-settled t c.requires.t_value (step-unregister 0 c.args.caller (here c.args.t.now) c.args.s c.args.n) (rw c.size-size.ensures.value at c.check_name.ensures) c.in_default.is ((opened c.args.t.now c.requires.t_value c.args.caller c.args.s c.place_for.result c.place_for.ensures c.in-Ok.is))
+    (c.unregister_in.ensures (here t) (base t c.requires.t_value) (regular t c.requires.t_value) c.args.s ((opened c.args.t.now c.requires.t_value c.args.caller c.args.s c.place_for.result c.place_for.ensures c.in-Ok.is)).seat)
 
-pub returns-in-Denied : goal.returns-in-Denied
+pub returns-in-Err-place_for : goal.returns-in-Err-place_for
 unfolding state_of
-returns-in-Denied c =
-    rw c.said.ensures (let both = says-denied c.args.t.now c.requires.t_value (step-unregister 0 c.args.caller (here c.args.t.now) c.args.s c.args.n) c.name_reason-reason.ensures c.in-Done.is
-    c.place_for.result c.place_for.ensures c.in-Denied.is in record { value = both.0; t_after = both.1 })
+returns-in-Err-place_for c =
+    rw c.said.ensures (says-denied c.args.t.now c.requires.t_value (step-unregister 0 c.args.caller (here c.args.t.now) c.args.s c.args.n) (rw c.size-size.ensures.value at c.check_name.ensures) c.in_default.is
+    c.place_for.result c.place_for.ensures c.in-Err-place_for.is)

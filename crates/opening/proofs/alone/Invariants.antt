@@ -1,11 +1,7 @@
--- `opening::alone` meets its contract: a walk over the set, in which each member's word becomes that member.
--- Assumes nothing.
+-- `opening::alone` meets its contract: a walk over the set, in which each member's word becomes that member. Assumes nothing.
 use Rattle.nodes.specs.Sets.{with_node}
 use Rattle.rewiring.specs.PlaceByPlace.{Walk}
 use Rattle.opening.proofs.alone.Given as goal
 
-abbrev pub invariant-loop-left : goal.invariant-loop-left
-invariant-loop-left l = Walk (λ i w. with_node 0 i) l.set l.initial.words l.left l.words
-
-abbrev pub decreases-loop-left : goal.decreases-loop-left
-decreases-loop-left l = l.left
+abbrev pub invariant-loop-node : goal.invariant-loop-node
+invariant-loop-node l = Walk (λ i w. with_node 0 i) l.set l.initial.words l.node-iterator.0 l.words

@@ -1,58 +1,47 @@
--- `place::place_in` meets its contract. The loop's invariant: the place is the place among the words from i on.
+-- `place::place_in` meets its contract: a turn looks at the first of the words from i on.
 -- Assumes nothing.
-use borrow.Author.Tests.{lt-ltb, le-ltb, eq-eqb, ne_eqb}
-use mathlib.Core.List.{List, ◌∷◌}
-use mathlib.Core.Path.{◌≡◌, sym, ◌∙◌}
-use native.Mathlib.Nat.{sub-zero}
-use native.Mathlib.Numerals.{add-one}
-use native.Mathlib.Omega.{arith}
-use Prim.Native.Nat.{ℕ, suc, ◌+◌, ◌-◌, ◌%◌, ◌≤◌, ◌<◌}
-use lib.ListN.{length, get_or, drop}
-use lib.Seq.{drop-cons}
+use Rattle.std.proofs.Common.{◌≡◌, sym, ◌∙◌, List, ◌∷◌, ℕ, suc, ◌+◌, ◌%◌, ◌≤◌, ◌<◌, length, get_or, drop, add-one, arith, drop-cons, lt-ltb, le-ltb, eq-eqb, ne_eqb}
+use Rattle.std.proofs.Math.Seq.{drop-length}
+use Rattle.std.specs.Prelude.{Ok, Err}
 use Rattle.semantics.specs.Sizes.{group_names}
 use Rattle.place.specs.Place.{place_in}
-use Rattle.place.specs.declared.Place.TheVariants.{At, Gap}
 use Rattle.place.proofs.place_in.Goals as goal
 
-module _ (ws : List ℕ) (count s i : ℕ) where
-  one : i < count → i < length ws → place_in i (count - i) s (drop i ws) ≡ place_in i (suc (count - (i + 1))) s (get_or ws i 0 ∷ drop (suc i) ws)
-  one h k = let e : count - i ≡ suc (count - (i + 1)) = omega arith in rw (e, drop-cons ws i 0)
+module _ (ws : List ℕ) (s i : ℕ) where
+  -- the name that a turn looks at
+  abbrev other : ℕ
+  other = get_or ws i 0 % group_names
 
-  hit : i < count → i < length ws → get_or ws i 0 % group_names ≡ s → place_in i (count - i) s (drop i ws) ≡ At i
-  hit h k e = one h k ∙ rw (le-ltb (get_or ws i 0 % group_names) s (omega arith), eq-eqb (get_or ws i 0 % group_names) s)
+  module _ (inside : i < length ws) where
+    one : place_in i s (drop i ws) ≡ place_in i s (get_or ws i 0 ∷ drop (suc i) ws)
+    one = rw (drop-cons ws i 0 inside)
 
-  over : i < count → i < length ws → s ≤ get_or ws i 0 % group_names → (get_or ws i 0 % group_names ≡ s → ⊥) → place_in i (count - i) s (drop i ws) ≡ Gap i
-  over h k l n = one h k ∙ rw (le-ltb (get_or ws i 0 % group_names) s, ne_eqb (get_or ws i 0 % group_names) s)
+    hit : other ≡ s → place_in i s (drop i ws) ≡ Ok i
+    hit e = one ∙ rw (le-ltb other s (omega arith), eq-eqb other s)
 
-  under : i < count → i < length ws → get_or ws i 0 % group_names < s → place_in i (count - i) s (drop i ws) ≡ place_in (i + 1) (count - (i + 1)) s (drop (i + 1) ws)
-  under h k l = one h k ∙ rw (lt-ltb (get_or ws i 0 % group_names) s, add-one i)
+    over : s ≤ other → (other ≡ s → ⊥) → place_in i s (drop i ws) ≡ Err i
+    over l n = one ∙ rw (le-ltb other s, ne_eqb other s)
 
-  past : count ≤ i → place_in i (count - i) s (drop i ws) ≡ Gap i
-  past h = let z : count - i ≡ 0 = omega arith in rw z
+    under : other < s → place_in i s (drop i ws) ≡ place_in (i + 1) s (drop (i + 1) ws)
+    under l = one ∙ rw (lt-ltb other s, add-one i)
 
-pub loop-i-init : goal.loop-i-init
-loop-i-init c = (omega arith, omega arith, simp sub-zero)
+  past : length ws ≤ i → i ≤ length ws → place_in i s (drop i ws) ≡ Err (length ws)
+  past h k =
+      let end : i ≡ length ws = omega arith in
+      rw (end, drop-length ws)
 
 pub returns-then-other-name : goal.returns-then-other-name
 returns-then-other-name c =
-    let a = c.args in
-    let v = c.loop-i in
-    sym (v.invariant.2 ∙ hit a.contents.now a.count a.s v.i (omega arith) (omega arith) c.if-other-name.true)
+    sym (c.loop-i.invariant ∙ hit c.args.contents.now c.args.s c.loop-i.i c.loop-i-test.true c.if-other-name.true)
 
-pub returns-then-name-other : goal.returns-then-name-other
-returns-then-name-other c =
-    let a = c.args in
-    let v = c.loop-i in
-    sym (v.invariant.2 ∙ over a.contents.now a.count a.s v.i (omega arith) (omega arith) (omega arith) c.if-other-name.false)
+pub returns-else-other-name : goal.returns-else-other-name
+returns-else-other-name c =
+    sym (c.loop-i.invariant ∙ over c.args.contents.now c.args.s c.loop-i.i c.loop-i-test.true c.if-name-other.true c.if-other-name.false)
 
 pub loop-i-preserved : goal.loop-i-preserved
 loop-i-preserved c =
-    let a = c.args in
-    let v = c.loop-i in
-    (omega arith, omega arith, v.invariant.2 ∙ under a.contents.now a.count a.s v.i (omega arith) (omega arith) (omega arith))
+    c.loop-i.invariant ∙ under c.args.contents.now c.args.s c.loop-i.i c.loop-i-test.true (omega arith)
 
 pub returns : goal.returns
 returns c =
-    let a = c.args in
-    let v = c.loop-i in
-    sym (v.invariant.2 ∙ past a.contents.now a.count a.s v.i (omega arith))
+    sym (c.loop-i.invariant ∙ past c.args.contents.now c.args.s c.loop-i.i (omega arith) c.loop-i.auto.i-end)

@@ -3,7 +3,7 @@ use borrow.Author.Tests.{lt-ltb, le-ltb, lt-leb, le-leb}
 use borrow.Author.Rules.{part_to_end}
 use mathlib.Core.Path.{◌≡◌, sym, ap, ◌∙◌}
 use mathlib.Core.Logic.{⊎_elim}
-use mathlib.Core.Bool.{true, false, ◌&&◌, and-false}
+use mathlib.Core.Bool.{true, false}
 use mathlib.Core.List.{List}
 use Prim.Native.Nat.{ℕ, ◌+◌, ◌-◌, ◌≤◌, ◌<◌}
 use native.Mathlib.Omega.{arith}
@@ -14,7 +14,7 @@ use Rattle.nodes.specs.Bools.{by_lt}
 use Rattle.tokens.specs.Reserved.{among}
 use Rattle.text.specs.Text.{newline, find_in}
 use Rattle.text.specs.FieldLaws.{find-within}
-use Rattle.book.specs.Book.{longest_atom, group_atoms, fit, place_of}
+use Rattle.book.specs.Book.{group_atoms, fit, place_of}
 use Rattle.book.specs.PlaceLaws.{place-among}
 use Rattle.book.specs.Reading.{count-within, no-newline, no-atom, stands-twice, too_few, too_many, is-book}
 use Rattle.plain_book.specs.Unindexed.{Read, read_none, read_more}
@@ -26,17 +26,6 @@ line-end t at f h = ap (λ (k : ℕ). at + k) (h ∙ ap (find_in newline) (part_
 
 end_within : (t : List ℕ) (at f : ℕ) → at < length t → f ≡ find_in newline (take (length t - at) (drop at t)) → at + f ≤ length t
 end_within t at f h e = omega (arith, line-end t at f e, find-within newline (drop at t), length-drop at t)
-
--- whether it is an atom
-module _ (size : ℕ) where
-  empty : size < 1 → (leb 1 size && leb size longest_atom) ≡ false
-  empty h = rw (lt-leb 1 size h)
-
-  long : longest_atom < size → (leb 1 size && leb size longest_atom) ≡ false
-  long h = rw (lt-leb size longest_atom h) (and-false (leb 1 size))
-
-  right : 1 ≤ size → size ≤ longest_atom → (leb 1 size && leb size longest_atom) ≡ true
-  right h l = rw (le-leb 1 size h, le-leb size longest_atom l)
 
 -- whether it is one of those before
 module _ (ls : List (List ℕ)) (a : List ℕ) (i p : ℕ) (number : length ls ≡ i) (at : p ≡ place_of a ls) where
@@ -66,13 +55,9 @@ returns-then-book-e c =
     let e = line-end c.args.book.now c.loop-at.at c.find.result c.find.ensures in
     sym (no-newline _ _ _ _ _ c.loop-at.invariant.reading c.loop-at-test.true (omega (arith, e, c.if-book-e.true)))
 
-pub returns-then-e-at-lt1 : goal.returns-then-e-at-lt1
-returns-then-e-at-lt1 c =
-    sym (no-atom _ _ _ _ _ c.loop-at.invariant.reading _ (line-end _ _ _ c.find.ensures) c.if-book-e.false (empty _ c.if-e-at-lt1.true))
-
-pub returns-then-e-at-gt-LONGEST_ATOM : goal.returns-then-e-at-gt-LONGEST_ATOM
-returns-then-e-at-gt-LONGEST_ATOM c =
-    sym (no-atom _ _ _ _ _ c.loop-at.invariant.reading _ (line-end _ _ _ c.find.ensures) c.if-book-e.false (long _ c.if-e-at-gt-LONGEST_ATOM.true))
+pub returns-then-not-is_atom : goal.returns-then-not-is_atom
+returns-then-not-is_atom c =
+    sym (no-atom _ _ _ _ _ c.loop-at.invariant.reading _ (line-end _ _ _ c.find.ensures) c.if-book-e.false (sym c.is_atom.ensures ∙ c.if-not-is_atom.true))
 
 pub slice_bounds-seek-end : goal.slice_bounds-seek-end
 slice_bounds-seek-end c = sym (length-take-le _ _ (omega arith))
@@ -90,7 +75,7 @@ overflow_add-i c =
 pub loop-at-preserved : goal.loop-at-preserved
 loop-at-preserved c =
     read_more _ _ _ c.loop-at.invariant _ (line-end _ _ _ c.find.ensures) c.if-book-e.false
-    (right _ c.if-e-at-lt1.false c.if-e-at-gt-LONGEST_ATOM.false)
+    (sym c.is_atom.ensures ∙ c.if-not-is_atom.false)
     (new _ _ _ _ c.loop-at.invariant.reading.passed.number c.seek.ensures c.if-seek-i.false)
 
 pub returns-then-i-nodes : goal.returns-then-i-nodes

@@ -1,13 +1,8 @@
--- `position::column` meets its contract: the walk to the place.
+-- `position::column` meets its contract: the rule has been followed at each byte in front.
 -- Assumes nothing.
-use Prim.Native.Nat.{◌-◌}
-use lib.ListN.{length}
-use Rattle.position.specs.Position.{next_column}
-use Rattle.position.specs.PositionLaws.{Reached}
+use Rattle.std.proofs.Common.{◌≡◌, ◌≤◌, ◌+◌, take}
+use Rattle.position.specs.Position.{next_column, behind}
 use Rattle.position.proofs.column.Given as goal
 
-abbrev pub invariant-loop-i : goal.invariant-loop-i
-invariant-loop-i l = Reached next_column l.text l.at l.i l.n
-
-abbrev pub decreases-loop-i : goal.decreases-loop-i
-decreases-loop-i l = length l.text - l.i
+abbrev pub invariant-loop-b : goal.invariant-loop-b
+invariant-loop-b l = (l.n ≤ l.b-index + 1) × (l.n ≡ behind next_column 1 (take l.b-index l.before))

@@ -1,24 +1,17 @@
--- `position::line` meets its contract: the walk to the place.
+-- `position::line` meets its contract: the newlines in front are counted.
 -- Assumes nothing.
-use mathlib.Core.Path.{◌∙◌, sym}
-use native.Mathlib.Omega.{arith}
-use borrow.Author.Tests.{eq-eqb, ne_eqb}
-use Rattle.position.specs.PositionLaws.{begun, stepped, arrived, ended}
+use borrow.Author.Rules.{rules}
+use borrow.Author.Tests.{tests}
+use mathlib.Core.Path.{ap, sym, ◌∙◌}
+use Prim.Native.Nat.{ℕ, ◌+◌}
+use lib.Dec.{eqb}
+use Rattle.std.proofs.lemmas.Iterator.{YieldsList-from_slice, YieldsList-from_take}
+use Rattle.std.proofs.lemmas.Iterator.Consumers.{YieldsList-at, YieldsList-from_filter, count_from_yields_List}
+use Rattle.text.specs.Text.{newline}
+use Rattle.position.specs.PositionLaws.{lines-counted}
 use Rattle.position.proofs.line.Goals as goal
-use Rattle.position.proofs.line.Goals.{then-text-i-eq10, else-text-i-eq10}
-
-pub loop-i-init : goal.loop-i-init
-loop-i-init c = begun _ _ _
-
-pub returns-then-at-i : goal.returns-then-at-i
-returns-then-at-i c = arrived c.loop-i.invariant c.if-at-i.true
-
-pub loop-i-preserved : goal.loop-i-preserved
-loop-i-preserved c =
-    let at = c.loop-i in
-    let here = c.loop-i-test.true in
-    let short = c.if-at-i.false in
-    elim c.if-text-i-eq10.branch [ then-text-i-eq10 w ↦ stepped at.invariant here short (w.n-is ∙ sym (rw (eq-eqb _ _ w.if-text-i-eq10.true))) (omega (arith, w.n-is, at.invariant.few)) | else-text-i-eq10 w ↦ stepped at.invariant here short (w.n-is ∙ sym (rw (ne_eqb _ _ w.if-text-i-eq10.false))) (omega (arith, w.n-is, at.invariant.few)) ]
 
 pub returns : goal.returns
-returns c = ended c.loop-i.invariant c.loop-i-test.false
+returns c =
+    let e = count_from_yields_List _ _ c.count.ensures.ran (YieldsList-from_filter _ (λ b. eqb b newline) (YieldsList-at c.filter.ensures.source (YieldsList-from_take c.args.at (YieldsList-at c.take.ensures.source (YieldsList-from_slice _ c.iter.ensures.rest)) c.take.ensures.count)) c.filter.ensures.closure (λ x b q h. search (rules, tests))) in
+    ap (λ (k : ℕ). 1 + k) e ∙ sym (lines-counted 1 _)

@@ -6,16 +6,16 @@ use Rattle.semantics.specs.Sizes.{names_per_group, bodies_at}
 use Rattle.returns.specs.Listing.{list-told, list-short}
 use Rattle.reading.proofs.list_names.Goals as goal
 
-pub returns-in-Of : goal.returns-in-Of
-returns-in-Of c =
+pub returns-in-Ok : goal.returns-in-Ok
+returns-in-Ok c =
     let a = c.args in
     λ st l w.
     rw c.done.ensures (list-told l a.at w (bodies_at + names_per_group * a.at) (bodies_at + names_per_group * a.at + names_per_group) refl refl a.s c.names_count-count.result c.names_count-count.ensures a.out.now
-    c.list_names.result c.list_names.new.out c.list_names.ensures.value c.list_names.ensures.out_after c.in-Of.is)
+    c.list_names.result c.list_names.new.out c.list_names.ensures.value c.list_names.ensures.out_after c.in-Ok.is)
 
-pub returns-in-Unfit : goal.returns-in-Unfit
-returns-in-Unfit c =
+pub returns-in-Err : goal.returns-in-Err
+returns-in-Err c =
     let a = c.args in
     λ st l w.
     rw c.refused.ensures (list-short l a.at w (bodies_at + names_per_group * a.at) (bodies_at + names_per_group * a.at + names_per_group) refl refl a.s c.names_count-count.result c.names_count-count.ensures a.out.now
-    c.list_names.result c.list_names.new.out c.list_names.ensures.value c.list_names.ensures.out_after c.in-Unfit.is)
+    c.list_names.result c.list_names.new.out c.list_names.ensures.value c.list_names.ensures.out_after c.in-Err.is)

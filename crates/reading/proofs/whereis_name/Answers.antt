@@ -1,32 +1,27 @@
 -- `reading::whereis_name` meets its contract: refused by its arguments, or what the lookup finds.
 -- Assumes nothing.
 use mathlib.Core.Path.{sym, ap, ◌∙◌}
-use native.Mathlib.Omega.{arith}
 use Rattle.semantics.specs.Steps.{Looked, tell}
 use Rattle.semantics.specs.Table.{state_of}
 use Rattle.returns.specs.Judged.{step-whereis, refused}
-use Rattle.place.specs.Sound.{here, nodes-few}
+use Rattle.place.specs.Sound.{here}
 use Rattle.returns.specs.Shown.{answers}
 use Rattle.names.specs.Looked.{looked_up}
 use Rattle.reading.specs.Asking.{whereis-told}
-use Rattle.inputs.proofs.Reasons.{not_done}
 use Rattle.reading.proofs.whereis_name.Goals as goal
 
-pub overflow_cast-size : goal.overflow_cast-size
-overflow_cast-size c = omega (arith, nodes-few c.args.t.now c.requires.t_value)
-
-pub returns-in_default : goal.returns-in_default
+pub returns-in-Err : goal.returns-in-Err
 unfolding state_of
-returns-in_default c =
-    rw c.refused.ensures (answers c.args.t.now c.requires.t_value
-    (refused (step-whereis 0 c.args.caller (here c.args.t.now) c.args.s c.args.n).judging c.name_reason-reason.ensures (not_done c.name_reason-reason.result c.in_default.not-Done)))
+returns-in-Err c =
+    rw c.refused.ensures (answers c.args.t.words.now c.args.t.fit
+    (refused (step-whereis 0 c.args.caller (here c.args.t.words.now) c.args.s c.args.n).judging (rw c.size.ensures.value at c.check_name.ensures) c.in-Err.is))
 
-pub returns-in-Found : goal.returns-in-Found
+pub returns-in-Ok : goal.returns-in-Ok
 unfolding state_of
-returns-in-Found c =
-    rw c.said.ensures ((let t = c.args.t.now in ap (λ (x : Looked). (tell x (here t)).answer) (ap looked_up (sym c.in-Found.is) ∙ c.look.ensures) ∙ answers t c.requires.t_value (whereis-told 0 c.args.caller c.args.s c.args.n (here t) c.name_reason-reason.ensures c.in-Done.is)))
+returns-in-Ok c =
+    rw c.said.ensures ((let t = c.args.t.words.now in ap (λ (x : Looked). (tell x (here t)).answer) (ap looked_up (sym c.in-Ok.is) ∙ c.look.ensures) ∙ answers t c.args.t.fit (whereis-told 0 c.args.caller c.args.s c.args.n (here t) (rw c.size.ensures.value at c.check_name.ensures) c.in_default.is)))
 
-pub returns-in-Missing : goal.returns-in-Missing
+pub returns-in-Err-look : goal.returns-in-Err-look
 unfolding state_of
-returns-in-Missing c =
-    rw c.said-in-Missing.ensures ((let t = c.args.t.now in ap (λ (x : Looked). (tell x (here t)).answer) (ap looked_up (sym c.in-Missing.is) ∙ c.look.ensures) ∙ answers t c.requires.t_value (whereis-told 0 c.args.caller c.args.s c.args.n (here t) c.name_reason-reason.ensures c.in-Done.is)))
+returns-in-Err-look c =
+    rw c.said-in-Err-look.ensures ((let t = c.args.t.words.now in ap (λ (x : Looked). (tell x (here t)).answer) (ap looked_up (sym c.in-Err-look.is) ∙ c.look.ensures) ∙ answers t c.args.t.fit (whereis-told 0 c.args.caller c.args.s c.args.n (here t) (rw c.size.ensures.value at c.check_name.ensures) c.in_default.is)))

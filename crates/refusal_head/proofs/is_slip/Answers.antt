@@ -1,14 +1,27 @@
 -- `refusal_head::is_slip` meets its contract: by the reason, the place, the book.
 -- Assumes nothing.
-use mathlib.Core.Path.{◌∙◌}
-use Rattle.refusal_head.specs.Begins.{other-reason, slip-placed, slip-fit}
+use Rattle.std.proofs.Common.{sym, ◌∙◌, lt-ltb, le-ltb}
+use denote.Enum.Bare.{differs_true, differs_false}
+use Rattle.answers.specs.contracts.Reason.{the_type}
+use Rattle.answers.specs.declared.Reason.TheVariants.{NoLaunchFile}
+use Rattle.answers.specs.Numbers.{other-number}
+use Rattle.refusal_head.specs.Refusal.{slip}
 use Rattle.refusal_head.proofs.is_slip.Goals as goal
 
-pub returns-then-number : goal.returns-then-number
-returns-then-number c = other-reason _ _ _ c.number.ensures c.number-2.ensures _ _ _ c.if-number.true
+pub returns-then-ne : goal.returns-then-ne
+unfolding slip
+returns-then-ne c =
+    let f = differs_true the_type c.args.reason NoLaunchFile (sym c.ne.ensures ∙ c.if-ne.true) in
+    rw (other-number NoLaunchFile c.args.reason (λ e. f (sym e)))
 
 pub returns-then-place-gt0 : goal.returns-then-place-gt0
-returns-then-place-gt0 c = slip-placed _ _ _ c.number.ensures c.number-2.ensures _ _ _ c.if-number.false c.if-place-gt0.true
+unfolding slip
+returns-then-place-gt0 c =
+    let e = differs_false the_type tt c.args.reason NoLaunchFile (sym c.ne.ensures ∙ c.if-ne.false) in
+    rw (e, lt-ltb 0 c.args.place c.if-place-gt0.true)
 
-pub returns : goal.returns
-returns c = c.fit.ensures.0 ∙ slip-fit _ _ _ c.number.ensures c.number-2.ensures _ _ _ c.if-number.false c.if-place-gt0.false
+pub returns-else-place-gt0 : goal.returns-else-place-gt0
+unfolding slip
+returns-else-place-gt0 c =
+    let e = differs_false the_type tt c.args.reason NoLaunchFile (sym c.ne.ensures ∙ c.if-ne.false) in
+    rw (e, le-ltb 0 c.args.place c.if-place-gt0.false) c.fit.ensures.0

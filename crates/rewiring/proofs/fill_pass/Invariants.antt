@@ -2,8 +2,7 @@
 -- Assumes nothing.
 use mathlib.Core.Path.{◌≡◌}
 use mathlib.Core.Bool.{cond}
-use Prim.Native.Nat.{ℕ, ◌≤◌, ◌-◌, ◌/◌, ◌^◌}
-use lib.ListN.{length}
+use Prim.Native.Nat.{ℕ, ◌/◌, ◌^◌}
 use Rattle.nodes.specs.Sets.{has}
 use Rattle.semantics.specs.Steps.{mapi}
 use Rattle.rewiring.specs.PlaceByPlace.{from}
@@ -13,8 +12,8 @@ use Rattle.rewiring.proofs.fill_pass.Given as goal
 abbrev pub put : ℕ → ℕ → ℕ → ℕ → ℕ
 put m v i w = cond (has m i) v w
 
-abbrev pub invariant-loop-i : goal.invariant-loop-i
-invariant-loop-i l = (l.left ≡ l.set / 2 ^ l.i) × (l.i ≤ length l.initial.words) × (length l.words ≡ length l.initial.words) × (from (put l.set l.word) l.i l.words ≡ mapi (put l.set l.word) 0 l.initial.words)
-
-abbrev pub decreases-loop-i : goal.decreases-loop-i
-decreases-loop-i l = length l.initial.words - l.i
+abbrev pub invariant-loop-old : goal.invariant-loop-old
+invariant-loop-old l = record {
+  digits : l.left ≡ l.set / 2 ^ l.old-index;
+  goal : from (put l.set l.word) l.old-index l.words ≡ mapi (put l.set l.word) 0 l.initial.words;
+}

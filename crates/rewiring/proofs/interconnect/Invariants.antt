@@ -9,8 +9,5 @@ use Rattle.rewiring.proofs.interconnect.Given as goal
 abbrev pub meeting : ℕ → ℕ → ℕ → ℕ
 meeting m i w = union w (without_node m i)
 
-abbrev pub invariant-loop-left : goal.invariant-loop-left
-invariant-loop-left l = Walk (meeting l.set) l.set l.initial.links l.left l.links
-
-abbrev pub decreases-loop-left : goal.decreases-loop-left
-decreases-loop-left l = l.left
+abbrev pub invariant-loop-node : goal.invariant-loop-node
+invariant-loop-node l = Walk (meeting l.set) l.set l.initial.links l.node-iterator.0 l.links

@@ -1,8 +1,7 @@
 -- `rewiring::take_out` meets its contract: the words from i on are still to lose the set.
 -- Assumes nothing.
 use mathlib.Core.Path.{◌≡◌}
-use Prim.Native.Nat.{ℕ, ◌≤◌, ◌-◌}
-use lib.ListN.{length}
+use Prim.Native.Nat.{ℕ}
 use Rattle.nodes.specs.Sets.{diff}
 use Rattle.semantics.specs.Steps.{mapi}
 use Rattle.rewiring.specs.PlaceByPlace.{from}
@@ -12,8 +11,5 @@ use Rattle.rewiring.proofs.take_out.Given as goal
 abbrev pub lost : ℕ → ℕ → ℕ → ℕ
 lost m i w = diff w m
 
-abbrev pub invariant-loop-i : goal.invariant-loop-i
-invariant-loop-i l = (l.i ≤ length l.initial.words) × (length l.words ≡ length l.initial.words) × (from (lost l.set) l.i l.words ≡ mapi (lost l.set) 0 l.initial.words)
-
-abbrev pub decreases-loop-i : goal.decreases-loop-i
-decreases-loop-i l = length l.initial.words - l.i
+abbrev pub invariant-loop-word : goal.invariant-loop-word
+invariant-loop-word l = from (lost l.set) l.word-index l.words ≡ mapi (lost l.set) 0 l.initial.words

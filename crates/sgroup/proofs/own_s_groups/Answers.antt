@@ -1,14 +1,13 @@
 -- `sgroup::own_s_groups` meets its contract: on a sound table its step does, and any other run is refused.
 -- Assumes nothing.
-use mathlib.Core.Path.{sym, ◌∙◌}
 use Rattle.commands.specs.declared.Command.TheVariants.{OwnSGroups}
 use Rattle.sgroup.specs.NoTable.{sound_run, lists-no_table}
 use Rattle.sgroup.proofs.own_s_groups.Goals as goal
 
-pub own_s_groups-requires : goal.own_s_groups-requires
-own_s_groups-requires c = let both = sound_run c.args.table.now (sym c.is_sound.ensures ∙ c.if-is_sound.true) in record { t_len = both.0; t_value = both.1 }
+pub returns-in-Err : goal.returns-in-Err
+returns-in-Err c = rw c.refused.ensures (lists-no_table c.args.table.now c.check.ensures c.in-Err.is c.args.caller OwnSGroups c.args.out.now)
 
-pub returns : goal.returns
-returns c =
-    let a = c.args in
-    let both = lists-no_table a.caller OwnSGroups a.table.now a.out.now c.no_table.result (sym c.is_sound.ensures ∙ c.if-is_sound.false) c.no_table.ensures in record { value = both.0; out_after = both.1 }
+pub invariant_of-own_s_groups : goal.invariant_of-own_s_groups
+invariant_of-own_s_groups c =
+    let q = sound_run c.args.table.now c.check.ensures c.in_default.is in
+    record { sized = q.t_len; fit = q.t_value }

@@ -1,14 +1,13 @@
 -- `sgroup::whereis_name` meets its contract: on a sound table its step does, and any other run is refused.
 -- Assumes nothing.
-use mathlib.Core.Path.{sym, ◌∙◌}
 use Rattle.commands.specs.declared.Command.TheVariants.{WhereisName}
 use Rattle.sgroup.specs.NoTable.{sound_run, says-no_table}
 use Rattle.sgroup.proofs.whereis_name.Goals as goal
 
-pub whereis_name-requires : goal.whereis_name-requires
-whereis_name-requires c = let both = sound_run c.args.table.now (sym c.is_sound.ensures ∙ c.if-is_sound.true) in record { t_len = both.0; t_value = both.1 }
+pub returns-in-Err : goal.returns-in-Err
+returns-in-Err c = rw c.refused.ensures ((says-no_table c.args.table.now c.check.ensures c.in-Err.is 0 c.args.caller (WhereisName c.args.s c.args.n)).value)
 
-pub returns : goal.returns
-returns c =
-    let a = c.args in
-    (says-no_table 0 a.caller (WhereisName a.s a.n) a.table.now c.no_table.result (sym c.is_sound.ensures ∙ c.if-is_sound.false) c.no_table.ensures).0
+pub invariant_of-whereis_name : goal.invariant_of-whereis_name
+invariant_of-whereis_name c =
+    let q = sound_run c.args.table.now c.check.ensures c.in_default.is in
+    record { sized = q.t_len; fit = q.t_value }

@@ -3,7 +3,8 @@
 use mathlib.Core.List.{[]}
 use Rattle.semantics.specs.Call.{call}
 use Rattle.answer_words.specs.Told.{silent-table, tells-table}
-use Rattle.sgroup_c.proofs.Formed.{one, none}
+use Rattle.std.proofs.Common.{sym, ◌∙◌}
+use Rattle.std.proofs.lemmas.Option.{same_Some, none-some}
 use Rattle.sgroup_c.proofs.commanded.Goals as goal
 
 pub returns-then-answer-lt-ANSWER_WORDS : goal.returns-then-answer-lt-ANSWER_WORDS
@@ -14,11 +15,11 @@ returns-then-answer-lt-ANSWER_WORDS c = λ command known.
 pub put-requires : goal.put-requires
 put-requires c = c.if-answer-lt-ANSWER_WORDS.false
 
-pub returns-in-Is : goal.returns-in-Is
-returns-in-Is c = λ command known.
+pub returns-in-Some : goal.returns-in-Some
+returns-in-Some c = λ command known.
     let a = c.args in
-    rw (one c.command_of.ensures c.in-Is.is known)
-    (tells-table (call 0 a.caller c.in-Is.command a.table.now) a.answer.now [] a.table.now c.if-answer-lt-ANSWER_WORDS.false (c.call.ensures.value, c.call.ensures.table_after) (c.put.ensures.value, c.put.ensures.run_after))
+    rw (same_Some _ _ (sym known ∙ sym c.command_of.ensures ∙ c.in-Some.is))
+    (tells-table (call 0 a.caller c.in-Some.command a.table.now) a.answer.now [] a.table.now c.if-answer-lt-ANSWER_WORDS.false (c.call.ensures.value, c.call.ensures.table_after) (c.put.ensures.value, c.put.ensures.run_after))
 
-pub returns-in-Nothing : goal.returns-in-Nothing
-returns-in-Nothing c = λ command known. absurd (none c.command_of.ensures c.in-Nothing.is known)
+pub returns-in-None : goal.returns-in-None
+returns-in-None c = λ command known. absurd (none-some _ (sym c.in-None.is ∙ c.command_of.ensures ∙ known))

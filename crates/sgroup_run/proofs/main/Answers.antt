@@ -11,5 +11,5 @@ slice_bounds-write_all-end c = sym (length-take-le _ _ (run-within _ _ _ _ _ _ _
 
 pub loop-at-smaller : goal.loop-at-smaller
 loop-at-smaller c =
-    let m = run-moves _ _ _ _ _ _ _ _ _ c.run-ran.ensures c.read_all-input.ensures c.loop-at-test.true (omega arith) in
+    let m = run-moves _ _ _ _ _ _ _ _ _ c.run-ran.ensures c.in-Ok.ensures.read c.loop-at-test.true (omega arith) in
     omega arith

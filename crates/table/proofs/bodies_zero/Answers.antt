@@ -1,6 +1,5 @@
 -- `table::bodies_zero` meets its contract: the words of the s_groups that were passed are tested.
 -- Assumes nothing.
-use borrow.Author.Rules.{rules}
 use mathlib.Core.Path.{◌≡◌, sym, ap, ap₂, ◌∙◌}
 use mathlib.Core.Bool.{Bool, ◌&&◌}
 use mathlib.Core.List.{List}
@@ -30,51 +29,16 @@ more cap g i t long few l x ex y ey =
 pub loop-i-init : goal.loop-i-init
 loop-i-init c =
     let a = c.args in
-    (omega arith, c.requires.1, sym (zero-none a.t.now (bodies_at + a.cap * a.g) (omega (arith, c.requires.0, bodies-before a.cap a.g c.requires.1))))
-
-pub overflow_mul-start : goal.overflow_mul-start
-overflow_mul-start c =
-    let a = c.args in
-    search (rules, body-within a.cap c.loop-i.i group_limit c.loop-i-test.true (omega arith))
-
-pub overflow_add-start : goal.overflow_add-start
-overflow_add-start c =
-    let a = c.args in
-    search (rules, body-within a.cap c.loop-i.i group_limit c.loop-i-test.true (omega arith))
-
-pub overflow_add-start-in-loop-i : goal.overflow_add-start-in-loop-i
-overflow_add-start-in-loop-i c =
-    let a = c.args in
-    search (rules, body-within a.cap c.loop-i.i group_limit c.loop-i-test.true (omega arith))
-
-pub offset_bounds-t-start : goal.offset_bounds-t-start
-offset_bounds-t-start c =
-    let a = c.args in
-    search (rules, body-within a.cap c.loop-i.i group_limit c.loop-i-test.true (omega arith))
-
-pub slice_bounds-all_zero-count : goal.slice_bounds-all_zero-count
-slice_bounds-all_zero-count c =
-    let a = c.args in
-    search (rules, body-within a.cap c.loop-i.i group_limit c.loop-i-test.true (omega arith))
-
-pub slice_bounds-all_zero-start : goal.slice_bounds-all_zero-start
-slice_bounds-all_zero-start c =
-    let a = c.args in
-    search (rules, body-within a.cap c.loop-i.i group_limit c.loop-i-test.true (omega arith))
-
-pub slice_bounds-all_zero-end : goal.slice_bounds-all_zero-end
-slice_bounds-all_zero-end c =
-    let a = c.args in
-    search (rules, body-within a.cap c.loop-i.i group_limit c.loop-i-test.true (omega arith))
+    sym (zero-none a.t.now (bodies_at + a.cap * a.g) (omega (arith, c.requires.0, bodies-before a.cap a.g c.requires.1)))
 
 pub loop-i-preserved : goal.loop-i-preserved
 loop-i-preserved c =
     let v = c.loop-i in
     let a = c.args in
-    (omega arith, omega arith, more a.cap a.g v.i a.t.now c.requires.0 (omega arith) (omega arith) v.right v.invariant.2 c.all_zero-right.result c.all_zero-right.ensures)
+    more a.cap a.g v.i a.t.now c.requires.0 (omega arith) (omega arith) v.right v.invariant c.all_zero-right.result c.all_zero-right.ensures
 
 pub returns : goal.returns
 returns c =
     let v = c.loop-i in
     let a = c.args in
-    v.invariant.2 ∙ ap (λ (n : ℕ). all_zero (part a.t.now (bodies_at + a.cap * a.g) (bodies_at + n))) (ap (λ (n : ℕ). a.cap * n) (omega arith) ∙ mul_comm a.cap group_limit)
+    v.invariant ∙ ap (λ (n : ℕ). all_zero (part a.t.now (bodies_at + a.cap * a.g) (bodies_at + n))) (ap (λ (n : ℕ). a.cap * n) (omega arith) ∙ mul_comm a.cap group_limit)

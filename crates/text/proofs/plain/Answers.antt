@@ -3,7 +3,7 @@
 use mathlib.Core.Path.{◌≡◌, refl}
 use mathlib.Core.Bool.{true, false, not}
 use mathlib.Core.List.{List, [], ◌∷◌}
-use Prim.Native.Nat.{ℕ}
+use Prim.Native.Nat.{ℕ, ◌≤◌}
 use native.Mathlib.Omega.{arith}
 use lib.Dec.{eqb}
 use lib.ListN.{length, get_or}
@@ -21,17 +21,17 @@ one [] e = absurd (omega arith)
 one (x ∷ []) e = refl
 one (x ∷ y ∷ ys) e = absurd (omega arith)
 
-two : (s : List ℕ) → (length s ≡ 0 → ⊥) → (length s ≡ 1 → ⊥) → not (eqb (get_or s 0 0) digit_0) ≡ plain s
+more : (s : List ℕ) → 2 ≤ length s → not (eqb (get_or s 0 0) digit_0) ≡ plain s
 unfolding plain
-two [] e f = absurd (e refl)
-two (x ∷ []) e f = absurd (f refl)
-two (x ∷ y ∷ ys) e f = refl
+more [] l = absurd (omega arith)
+more (x ∷ []) l = absurd (omega arith)
+more (x ∷ y ∷ ys) l = refl
 
-pub returns-then-s-eq0 : goal.returns-then-s-eq0
-returns-then-s-eq0 c = none _ c.if-s-eq0.true
+pub returns-in-empty : goal.returns-in-empty
+returns-in-empty c = none _ (omega arith)
 
-pub returns-then-s-eq1 : goal.returns-then-s-eq1
-returns-then-s-eq1 c = one _ c.if-s-eq1.true
+pub returns-in-len1 : goal.returns-in-len1
+returns-in-len1 c = one _ (omega arith)
 
-pub returns : goal.returns
-returns c = two _ c.if-s-eq0.false c.if-s-eq1.false
+pub returns-in-len1-up : goal.returns-in-len1-up
+returns-in-len1-up c = more _ c.in-len1-up.len_at_least

@@ -1,6 +1,7 @@
 -- `values::skip_list` and `values::skip_tuple` meet their contracts: each calls both with a depth that is one less, which is the measure, and each answer is a law of `Skips`.
 -- Assumes nothing.
-use Rattle.std.proofs.Common.{◌-◌, get_or, arith, pos_of_ne-zero}
+use Rattle.std.proofs.Common.{refl, ◌-◌, get_or, arith, pos_of_ne-zero}
+use Rattle.grammar.specs.File.{closing}
 use Rattle.values.specs.Skipping.{skip_of_number, bracket_of, Emptied}
 use Rattle.values.specs.Skips.{opened-list, opened-tuple, between_none, between-stops, between-ahead, between-closed, between-deep, between-refused, between_more, between-falls}
 use Rattle.values.proofs.+skip_list_skip_tuple.Goals as goal
@@ -46,27 +47,27 @@ skip_list-skip_tuple-e-requires t c =
 
 pub skip_list-returns-then-e-ge-STOP : goal.skip_list-returns-then-e-ge-STOP
 skip_list-returns-then-e-ge-STOP t c =
-    let inner : Emptied (bracket_of (get_or c.args.text.now (c.flat-n.result - 1) 0)) c.args.text.now c.flat-n.result (c.args.depth - 1) (skip_of_number c.if-b-eq91.e) = elim c.if-b-eq91.branch [
+    let inner : Emptied (closing (bracket_of (get_or c.args.text.now (c.flat-n.result - 1) 0))) c.args.text.now c.flat-n.result (c.args.depth - 1) (skip_of_number c.if-b-eq91.e) = elim c.if-b-eq91.branch [
       | skip_list-then-b-eq91 w ↦ rw w.e-is (opened-list _ _ _ _ _ w.if-b-eq91.true w.skip_list-e.ensures)
       | skip_list-else-b-eq91 w ↦ rw w.e-is (opened-tuple _ _ _ _ _ w.if-b-eq91.false w.skip_tuple-e.ensures)
     ] in
-    between-refused _ _ _ _ _ _ c.loop-at.invariant _ c.flat-n.ensures c.if-n-ge-STOP.false c.if-b-eq93.false c.if-depth-eq0.false _ inner c.if-e-ge-STOP.true
+    between-refused _ _ _ _ _ _ c.loop-at.invariant _ c.flat-n.ensures c.if-n-ge-STOP.false c.if-b-eq93.false c.if-depth-eq0.false _ refl _ inner c.if-e-ge-STOP.true
 
 pub skip_list-loop-at-smaller : goal.skip_list-loop-at-smaller
 skip_list-loop-at-smaller t c =
-    let inner : Emptied (bracket_of (get_or c.args.text.now (c.flat-n.result - 1) 0)) c.args.text.now c.flat-n.result (c.args.depth - 1) (skip_of_number c.if-b-eq91.e) = elim c.if-b-eq91.branch [
+    let inner : Emptied (closing (bracket_of (get_or c.args.text.now (c.flat-n.result - 1) 0))) c.args.text.now c.flat-n.result (c.args.depth - 1) (skip_of_number c.if-b-eq91.e) = elim c.if-b-eq91.branch [
       | skip_list-then-b-eq91 w ↦ rw w.e-is (opened-list _ _ _ _ _ w.if-b-eq91.true w.skip_list-e.ensures)
       | skip_list-else-b-eq91 w ↦ rw w.e-is (opened-tuple _ _ _ _ _ w.if-b-eq91.false w.skip_tuple-e.ensures)
     ] in
-    between-falls _ _ _ _ _ _ c.loop-at.invariant _ c.flat-n.ensures c.if-n-ge-STOP.false c.if-b-eq93.false c.if-depth-eq0.false _ inner c.if-e-ge-STOP.false
+    between-falls _ _ _ _ _ _ c.loop-at.invariant _ c.flat-n.ensures c.if-n-ge-STOP.false c.if-b-eq93.false c.if-depth-eq0.false _ refl _ inner c.if-e-ge-STOP.false
 
 pub skip_list-loop-at-preserved : goal.skip_list-loop-at-preserved
 skip_list-loop-at-preserved t c =
-    let inner : Emptied (bracket_of (get_or c.args.text.now (c.flat-n.result - 1) 0)) c.args.text.now c.flat-n.result (c.args.depth - 1) (skip_of_number c.if-b-eq91.e) = elim c.if-b-eq91.branch [
+    let inner : Emptied (closing (bracket_of (get_or c.args.text.now (c.flat-n.result - 1) 0))) c.args.text.now c.flat-n.result (c.args.depth - 1) (skip_of_number c.if-b-eq91.e) = elim c.if-b-eq91.branch [
       | skip_list-then-b-eq91 w ↦ rw w.e-is (opened-list _ _ _ _ _ w.if-b-eq91.true w.skip_list-e.ensures)
       | skip_list-else-b-eq91 w ↦ rw w.e-is (opened-tuple _ _ _ _ _ w.if-b-eq91.false w.skip_tuple-e.ensures)
     ] in
-    between_more _ _ _ _ _ _ c.loop-at.invariant _ c.flat-n.ensures c.if-n-ge-STOP.false c.if-b-eq93.false c.if-depth-eq0.false _ inner c.if-e-ge-STOP.false
+    between_more _ _ _ _ _ _ c.loop-at.invariant _ c.flat-n.ensures c.if-n-ge-STOP.false c.if-b-eq93.false c.if-depth-eq0.false _ refl _ inner c.if-e-ge-STOP.false
 
 -- ---- skip_tuple
 
@@ -108,24 +109,24 @@ skip_tuple-skip_tuple-e-requires t c =
 
 pub skip_tuple-returns-then-e-ge-STOP : goal.skip_tuple-returns-then-e-ge-STOP
 skip_tuple-returns-then-e-ge-STOP t c =
-    let inner : Emptied (bracket_of (get_or c.args.text.now (c.flat-n.result - 1) 0)) c.args.text.now c.flat-n.result (c.args.depth - 1) (skip_of_number c.if-b-eq91.e) = elim c.if-b-eq91.branch [
+    let inner : Emptied (closing (bracket_of (get_or c.args.text.now (c.flat-n.result - 1) 0))) c.args.text.now c.flat-n.result (c.args.depth - 1) (skip_of_number c.if-b-eq91.e) = elim c.if-b-eq91.branch [
       | skip_tuple-then-b-eq91 w ↦ rw w.e-is (opened-list _ _ _ _ _ w.if-b-eq91.true w.skip_list-e.ensures)
       | skip_tuple-else-b-eq91 w ↦ rw w.e-is (opened-tuple _ _ _ _ _ w.if-b-eq91.false w.skip_tuple-e.ensures)
     ] in
-    between-refused _ _ _ _ _ _ c.loop-at.invariant _ c.flat-n.ensures c.if-n-ge-STOP.false c.if-b-eq125.false c.if-depth-eq0.false _ inner c.if-e-ge-STOP.true
+    between-refused _ _ _ _ _ _ c.loop-at.invariant _ c.flat-n.ensures c.if-n-ge-STOP.false c.if-b-eq125.false c.if-depth-eq0.false _ refl _ inner c.if-e-ge-STOP.true
 
 pub skip_tuple-loop-at-smaller : goal.skip_tuple-loop-at-smaller
 skip_tuple-loop-at-smaller t c =
-    let inner : Emptied (bracket_of (get_or c.args.text.now (c.flat-n.result - 1) 0)) c.args.text.now c.flat-n.result (c.args.depth - 1) (skip_of_number c.if-b-eq91.e) = elim c.if-b-eq91.branch [
+    let inner : Emptied (closing (bracket_of (get_or c.args.text.now (c.flat-n.result - 1) 0))) c.args.text.now c.flat-n.result (c.args.depth - 1) (skip_of_number c.if-b-eq91.e) = elim c.if-b-eq91.branch [
       | skip_tuple-then-b-eq91 w ↦ rw w.e-is (opened-list _ _ _ _ _ w.if-b-eq91.true w.skip_list-e.ensures)
       | skip_tuple-else-b-eq91 w ↦ rw w.e-is (opened-tuple _ _ _ _ _ w.if-b-eq91.false w.skip_tuple-e.ensures)
     ] in
-    between-falls _ _ _ _ _ _ c.loop-at.invariant _ c.flat-n.ensures c.if-n-ge-STOP.false c.if-b-eq125.false c.if-depth-eq0.false _ inner c.if-e-ge-STOP.false
+    between-falls _ _ _ _ _ _ c.loop-at.invariant _ c.flat-n.ensures c.if-n-ge-STOP.false c.if-b-eq125.false c.if-depth-eq0.false _ refl _ inner c.if-e-ge-STOP.false
 
 pub skip_tuple-loop-at-preserved : goal.skip_tuple-loop-at-preserved
 skip_tuple-loop-at-preserved t c =
-    let inner : Emptied (bracket_of (get_or c.args.text.now (c.flat-n.result - 1) 0)) c.args.text.now c.flat-n.result (c.args.depth - 1) (skip_of_number c.if-b-eq91.e) = elim c.if-b-eq91.branch [
+    let inner : Emptied (closing (bracket_of (get_or c.args.text.now (c.flat-n.result - 1) 0))) c.args.text.now c.flat-n.result (c.args.depth - 1) (skip_of_number c.if-b-eq91.e) = elim c.if-b-eq91.branch [
       | skip_tuple-then-b-eq91 w ↦ rw w.e-is (opened-list _ _ _ _ _ w.if-b-eq91.true w.skip_list-e.ensures)
       | skip_tuple-else-b-eq91 w ↦ rw w.e-is (opened-tuple _ _ _ _ _ w.if-b-eq91.false w.skip_tuple-e.ensures)
     ] in
-    between_more _ _ _ _ _ _ c.loop-at.invariant _ c.flat-n.ensures c.if-n-ge-STOP.false c.if-b-eq125.false c.if-depth-eq0.false _ inner c.if-e-ge-STOP.false
+    between_more _ _ _ _ _ _ c.loop-at.invariant _ c.flat-n.ensures c.if-n-ge-STOP.false c.if-b-eq125.false c.if-depth-eq0.false _ refl _ inner c.if-e-ge-STOP.false

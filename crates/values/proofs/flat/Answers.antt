@@ -1,10 +1,7 @@
 -- `values::flat` meets its contract: up to the place of each turn there is no bracket, and each answer is a law of `Items`.
 -- Assumes nothing.
-use Prim.Native.Nat.{◌<◌}
 use native.Mathlib.Omega.{arith}
-use lib.ListN.{length}
 use Rattle.grammar.specs.File.{list, tuple}
-use Rattle.values.specs.Skipping.{stops_at}
 use Rattle.values.specs.Items.{along-none, along-stops, along-inside, along-closed, along-opens, along-refused, along-more, along-falls}
 use Rattle.values.proofs.flat.Goals as goal
 
@@ -22,17 +19,17 @@ bounds-text-i c = along-inside _ _ _ _ _ _ c.loop-at.invariant _ c.next_item-i.e
 
 pub returns-then-b-close : goal.returns-then-b-close
 returns-then-b-close c =
-    along-closed _ _ _ _ _ _ c.loop-at.invariant _ c.next_item-i.ensures c.if-i-ge-STOP.false ((let the : length c.args.text.now < stops_at = omega (arith, c.well_formed.0.1) in the)) c.if-b-close.true
+    along-closed _ _ _ _ _ _ c.loop-at.invariant _ c.next_item-i.ensures c.if-i-ge-STOP.false (omega (arith, c.well_formed.0.1)) c.if-b-close.true
 
 pub returns-then-b-eq91 : goal.returns-then-b-eq91
 returns-then-b-eq91 c =
     along-opens _ _ _ _ _ _ c.loop-at.invariant _ c.next_item-i.ensures c.if-i-ge-STOP.false c.if-b-close.false
-    ((let the : length c.args.text.now < stops_at = omega (arith, c.well_formed.0.1) in the)) list c.if-b-eq91.true
+    (omega (arith, c.well_formed.0.1)) list c.if-b-eq91.true
 
 pub returns-then-b-eq123 : goal.returns-then-b-eq123
 returns-then-b-eq123 c =
     along-opens _ _ _ _ _ _ c.loop-at.invariant _ c.next_item-i.ensures c.if-i-ge-STOP.false c.if-b-close.false
-    ((let the : length c.args.text.now < stops_at = omega (arith, c.well_formed.0.1) in the)) tuple c.if-b-eq123.true
+    (omega (arith, c.well_formed.0.1)) tuple c.if-b-eq123.true
 
 pub plain-n-requires : goal.plain-n-requires
 plain-n-requires c = along-inside _ _ _ _ _ _ c.loop-at.invariant _ c.next_item-i.ensures c.if-i-ge-STOP.false

@@ -1,24 +1,21 @@
 -- `values::next_item` meets its contract: the byte behind the white space decides, or the one behind a comma.
 -- Assumes nothing.
-use Prim.Native.Nat.{◌<◌}
 use native.Mathlib.Omega.{arith}
-use lib.ListN.{length}
-use Rattle.values.specs.Skipping.{stops_at}
 use Rattle.values.specs.Items.{white-within, dark, next-cut, next-first, next-closed, next-none, next-missing, next-closes, next_more}
 use Rattle.values.proofs.next_item.Goals as goal
 
 pub stop-requires : goal.stop-requires
-stop-requires c = omega (arith, (let the : length c.args.text.now < stops_at = omega (arith, c.well_formed.0.1) in the), white-within _ _ _ c.past_white-i.ensures c.requires)
+stop-requires c = omega (arith, c.well_formed.0.1, white-within _ _ _ c.past_white-i.ensures c.requires)
 
 pub returns-then-text-i : goal.returns-then-text-i
 returns-then-text-i c = rw c.stop.ensures (next-cut _ _ _ c.past_white-i.ensures _ _ c.requires c.if-text-i.true)
 
 pub returns-then-opened : goal.returns-then-opened
-returns-then-opened c = next-first _ _ _ c.past_white-i.ensures _ _ c.if-text-i.false ((let the : length c.args.text.now < stops_at = omega (arith, c.well_formed.0.1) in the)) c.if-opened.true
+returns-then-opened c = next-first _ _ _ c.past_white-i.ensures _ _ c.if-text-i.false (omega (arith, c.well_formed.0.1)) c.if-opened.true
 
 pub returns-then-b-close : goal.returns-then-b-close
 returns-then-b-close c =
-    next-closed _ _ _ c.past_white-i.ensures _ _ c.if-text-i.false c.if-opened.false ((let the : length c.args.text.now < stops_at = omega (arith, c.well_formed.0.1) in the)) c.if-b-close.true
+    next-closed _ _ _ c.past_white-i.ensures _ _ c.if-text-i.false c.if-opened.false (omega (arith, c.well_formed.0.1)) c.if-b-close.true
 
 pub returns-then-b-ne44 : goal.returns-then-b-ne44
 returns-then-b-ne44 c =
@@ -26,7 +23,7 @@ returns-then-b-ne44 c =
 
 pub stop-requires-then-text-n : goal.stop-requires-then-text-n
 stop-requires-then-text-n c =
-    omega (arith, (let the : length c.args.text.now < stops_at = omega (arith, c.well_formed.0.1) in the), white-within _ _ _ c.past_white-n.ensures (let l = c.if-text-i.false in omega arith))
+    omega (arith, c.well_formed.0.1, white-within _ _ _ c.past_white-n.ensures (let l = c.if-text-i.false in omega arith))
 
 pub returns-then-text-n : goal.returns-then-text-n
 returns-then-text-n c =
@@ -43,4 +40,4 @@ returns-then-text-n-2 c =
 pub returns : goal.returns
 returns c =
     next_more _ _ _ c.past_white-i.ensures _ _ c.if-text-i.false c.if-opened.false c.if-b-close.false c.if-b-ne44.false _ c.past_white-n.ensures
-    c.if-text-n.false (dark _ _ _ c.past_white-n.ensures c.if-text-n.false) ((let the : length c.args.text.now < stops_at = omega (arith, c.well_formed.0.1) in the)) c.if-text-n-2.false
+    c.if-text-n.false (dark _ _ _ c.past_white-n.ensures c.if-text-n.false) (omega (arith, c.well_formed.0.1)) c.if-text-n-2.false

@@ -5,8 +5,8 @@ use lib.ListN.{length}
 use Rattle.walk.specs.Groups.{pass_groups_from, pass_groups}
 use Rattle.walk.proofs.pass_groups.Given as goal
 
-abbrev pub invariant-loop-n : goal.invariant-loop-n
-invariant-loop-n l = pass_groups l.text l.at ≡ pass_groups_from l.text l.j l.begun
+abbrev pub invariant-loop-front : goal.invariant-loop-front
+invariant-loop-front l = pass_groups l.text l.at ≡ pass_groups_from l.text l.j l.begun
 
-abbrev pub decreases-loop-n : goal.decreases-loop-n
-decreases-loop-n l = length l.text - l.j
+abbrev pub decreases-loop-front : goal.decreases-loop-front
+decreases-loop-front l = length l.text - l.j

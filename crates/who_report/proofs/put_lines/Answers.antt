@@ -1,12 +1,14 @@
--- `who_report::put_lines` meets its contract: all lines behind what was there is what is left of them behind what is there now.
+-- `who_report::put_lines` meets its contract: the lines of the names that are left are still to be put.
 -- Assumes nothing.
-use borrow.Author.Rules.{rules}
-use mathlib.Core.Path.{sym, ◌∙◌}
-use Rattle.who_report.specs.Telling.{lines-turn, lines_end}
+use Rattle.std.proofs.Common.{arith}
+use Rattle.print.specs.Puts.{leaves_less, leaves_none}
+use Rattle.who_report.specs.Telling.{names_turn, names_end}
 use Rattle.who_report.proofs.put_lines.Goals as goal
 
-pub loop-i-preserved : goal.loop-i-preserved
-loop-i-preserved c = (search rules, search rules, c.loop-i.invariant.2 ∙ lines-turn _ _ _ _ c.loop-i-test.true c.put_name-p.ensures)
+pub loop-s-preserved : goal.loop-s-preserved
+loop-s-preserved c =
+    let f = c.as_chunks.ensures in
+    leaves_less c.loop-s.invariant (names_turn c.args.words.now _ c.loop-s.s-index f.front (omega (arith, c.loop-s-test.true, f.front_len))) c.put_name.ensures
 
 pub returns : goal.returns
-returns c = sym (c.loop-i.invariant.2 ∙ lines_end _ _ _ c.loop-i-test.false)
+returns c = leaves_none c.loop-s.invariant (names_end c.args.words.now c.loop-s.s-index (omega (arith, c.loop-s-test.false, c.as_chunks.ensures.front_len)))

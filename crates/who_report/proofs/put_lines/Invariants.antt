@@ -1,15 +1,9 @@
--- `who_report::put_lines` meets its contract: all lines behind what was there is what is left of them behind what is there now.
+-- `who_report::put_lines` meets its contract: the lines of the names that are left are still to be put.
 -- Assumes nothing.
-use mathlib.Core.Path.{◌≡◌}
-use Prim.Native.Nat.{◌≤◌, ◌-◌}
-use lib.ListN.{length, drop}
-use Rattle.print.specs.Sheets.{sheet, put}
+use Rattle.std.proofs.Common.{◌*◌, drop}
+use Rattle.print.specs.Puts.{Leaves}
 use Rattle.who_report.specs.Who.{name_lines}
 use Rattle.who_report.proofs.put_lines.Given as goal
 
-abbrev pub invariant-loop-i : goal.invariant-loop-i
-invariant-loop-i l =
-    (l.i ≤ length l.words) × (length l.out ≡ length l.initial.out) × (put (sheet l.initial.out 0) (name_lines l.words) ≡ put (sheet l.out l.p) (name_lines (drop l.i l.words)))
-
-abbrev pub decreases-loop-i : goal.decreases-loop-i
-decreases-loop-i l = length l.words - l.i
+abbrev pub invariant-loop-s : goal.invariant-loop-s
+invariant-loop-s l = Leaves l.initial.printer l.printer (name_lines l.words) (name_lines (drop (2 * l.s-index) l.words))

@@ -1,12 +1,12 @@
 -- `who_report::put_names` meets its contract: by whether there is a name.
 -- Assumes nothing.
-use mathlib.Core.Path.{ap, ◌∙◌}
-use Rattle.print.specs.Sheets.{put}
-use Rattle.who_report.specs.Telling.{none_told, some-told}
+use Rattle.who_report.specs.Who.{names_told}
 use Rattle.who_report.proofs.put_names.Goals as goal
 
-pub returns-then-words-eq0 : goal.returns-then-words-eq0
-returns-then-words-eq0 c = c.put_bytes.ensures ∙ ap (put _) (none_told _ c.if-words-eq0.true)
+pub returns-then-is_empty : goal.returns-then-is_empty
+unfolding names_told
+returns-then-is_empty c = rw (← c.is_empty.ensures, c.if-is_empty.true) c.put_bytes.ensures
 
-pub returns : goal.returns
-returns c = c.put_lines.ensures ∙ ap (put _) (some-told _ c.if-words-eq0.false)
+pub returns-else-is_empty : goal.returns-else-is_empty
+unfolding names_told
+returns-else-is_empty c = rw (← c.is_empty.ensures, c.if-is_empty.false) c.put_lines.ensures

@@ -3,7 +3,8 @@
 use mathlib.Core.List.{[]}
 use Rattle.indexes.specs.IndexCalls.{indexed}
 use Rattle.answer_words.specs.Told.{silent-indexed, tells-indexed}
-use Rattle.sgroup_c.proofs.Formed.{one, none}
+use Rattle.std.proofs.Common.{sym, ◌∙◌}
+use Rattle.std.proofs.lemmas.Option.{same_Some, none-some}
 use Rattle.sgroup_c.proofs.with_index.commanded.Goals as goal
 
 pub returns-then-answer-lt-ANSWER_WORDS : goal.returns-then-answer-lt-ANSWER_WORDS
@@ -15,13 +16,13 @@ returns-then-answer-lt-ANSWER_WORDS c =
 pub put-requires : goal.put-requires
 put-requires c = c.if-answer-lt-ANSWER_WORDS.false
 
-pub returns-in-Is : goal.returns-in-Is
-returns-in-Is c =
+pub returns-in-Some : goal.returns-in-Some
+returns-in-Some c =
     λ command known.
     let a = c.args in
     let g = c.call.ensures in
-    rw (one c.command_of.ensures c.in-Is.is known)
-    (tells-indexed (indexed 0 a.caller c.in-Is.command a.table.now a.index.now) a.answer.now [] a.table.now a.index.now c.if-answer-lt-ANSWER_WORDS.false (g.value, (g.table_after, g.index_after)) (c.put.ensures.value, c.put.ensures.run_after))
+    rw (same_Some _ _ (sym known ∙ sym c.command_of.ensures ∙ c.in-Some.is))
+    (tells-indexed (indexed 0 a.caller c.in-Some.command a.table.now a.index.now) a.answer.now [] a.table.now a.index.now c.if-answer-lt-ANSWER_WORDS.false (g.value, (g.table_after, g.index_after)) (c.put.ensures.value, c.put.ensures.run_after))
 
-pub returns-in-Nothing : goal.returns-in-Nothing
-returns-in-Nothing c = λ command known. absurd (none c.command_of.ensures c.in-Nothing.is known)
+pub returns-in-None : goal.returns-in-None
+returns-in-None c = λ command known. absurd (none-some _ (sym c.in-None.is ∙ c.command_of.ensures ∙ known))

@@ -1,0 +1,2 @@
+-- What answers of this crate share.
+mod Read

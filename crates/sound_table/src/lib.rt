@@ -1,0 +1,50 @@
+// A sound table, lent for reading: its head, and the words of its s_groups.
+#![tactic(auto)]
+
+ghost use Rattle.std.specs.Prelude.{◌≡◌, ◌≤◌, true, length, take, drop};
+ghost use Rattle.nodes.specs.Sets.{node_limit};
+ghost use Rattle.semantics.specs.Sizes.{group_limit, names_per_group, table_words, contents_at, members_at};
+ghost use Rattle.semantics.specs.Soundness.{size_of, count_of};
+ghost use Rattle.semantics.specs.Test.{sound};
+
+use layout::{CONTENTS_AT, COUNT_AT, MEMBERS_AT, SIZE_AT};
+
+// The words of a sound table. What writes takes the bare words: between its writes the table is no sound one, and a `&mut` held here would have to keep the facts at each.
+#[derive(Clone, Copy)]
+pub struct SoundTable<'a> {
+    pub words: &'a [u64],
+    pub ghost sized: { length words.now ≡ table_words names_per_group },
+    pub ghost fit: { sound names_per_group words.now ≡ true },
+}
+
+impl<'a> SoundTable<'a> {
+    // How many nodes are on the roster.
+    pub fn size(self) -> u32
+        ensures value { result ≡ size_of self.entry.words.now }
+        ensures few { result ≤ node_limit }
+    {
+        self.words[SIZE_AT] as u32
+    }
+
+    // How many s_groups there are.
+    pub fn count(self) -> usize
+        ensures value { result ≡ count_of self.entry.words.now }
+        ensures few { result ≤ group_limit }
+    {
+        self.words[COUNT_AT] as usize
+    }
+
+    // The contents word of each s_group.
+    pub fn contents(self) -> &'a [u64]
+        ensures { result.now ≡ take (count_of self.entry.words.now) (drop contents_at self.entry.words.now) }
+    {
+        &self.words[CONTENTS_AT..CONTENTS_AT + self.count()]
+    }
+
+    // The members of each s_group.
+    pub fn members(self) -> &'a [u64]
+        ensures { result.now ≡ take (count_of self.entry.words.now) (drop members_at self.entry.words.now) }
+    {
+        &self.words[MEMBERS_AT..MEMBERS_AT + self.count()]
+    }
+}

@@ -1,6 +1,6 @@
 -- The walk that makes s_groups, one at a time. Assumes nothing.
 use Rattle.std.specs.Prelude.{◌≡◌, true, List, ◌∷◌, ℕ, suc, ◌+◌, ◌≤◌, ◌<◌, ◌^◌, length, drop, get_or}
-use Rattle.std.proofs.Common.{sym, ap, ◌∙◌, arith, drop_of_length-le, drop-cons}
+use Rattle.std.proofs.Common.{sym, ◌∙◌, arith, drop_of_length-le, drop-cons}
 use Rattle.nodes.specs.Sets.{node_limit, lowest}
 use Rattle.entries.specs.Pids.{half_word}
 use Rattle.pairs.specs.declared.Made.{Made}
@@ -19,15 +19,14 @@ pub record ToMake (ms : List Made) (t₀ : List ℕ) (i : ℕ) (t : List ℕ) : 
   pub comes : created (woven ms) t₀ ≡ created (woven (drop i ms)) t
 
 -- that of the place i is made
-pub makes : (ms : List Made) (t₀ : List ℕ) (i : ℕ) (t : List ℕ) (d : Made) {u : List ℕ} → ToMake ms t₀ i t → i < length ms
-    → (get_or ms i d).number < half_word → (get_or ms i d).set < 2 ^ node_limit
-    → u ≡ (call 0 (lowest (get_or ms i d).set) (NewSGroup (get_or ms i d).number (get_or ms i d).set) t).table → ToMake ms t₀ (i + 1) u
+pub makes : (ms : List Made) (t₀ : List ℕ) (i : ℕ) (t : List ℕ) (d g : Made) {u : List ℕ} → ToMake ms t₀ i t → i < length ms → g ≡ get_or ms i d
+    → g.number < half_word → g.set < 2 ^ node_limit → u ≡ (call 0 (lowest g.set) (NewSGroup g.number g.set) t).table → ToMake ms t₀ (i + 1) u
 unfolding created woven
-makes ms t₀ i t d m l n s e = record {
+makes ms t₀ i t d g m l is n s e = record {
   whole = rw e ((sound-iff names_per_group _).1 (calls-keep-sound 0 _ _ t (n, s) ((sound-iff names_per_group t).0 m.whole)));
   comes =
       let next : suc i ≡ i + 1 = omega arith in
-      let from : drop i ms ≡ get_or ms i d ∷ drop (i + 1) ms = drop-cons ms i d l ∙ ap (λ n. get_or ms i d ∷ drop n ms) next in
+      let from : drop i ms ≡ g ∷ drop (i + 1) ms = drop-cons ms i d l ∙ rw (next, is) in
       m.comes ∙ rw (from, e);
 }
 

@@ -1,16 +1,11 @@
 -- What the walk says where it says anything: of the nodes of a group, and of all groups. Definitions only. Assumes nothing.
-use Rattle.std.specs.Prelude.{◌≡◌, Bool, true, List, ℕ, eqb, take, Ok}
-use Rattle.std.specs.List.{list_any}
+use Rattle.std.specs.Prelude.{◌≡◌, true, List, ℕ, take, Ok}
 use Rattle.pairs.specs.declared.Made.{Made}
 use Rattle.pairs.specs.Woven.{woven}
 use Rattle.walk.specs.Groups.{nodes, pass_nodes, groups, pass_groups}
 use Rattle.book.specs.Book.{node_atoms}
 use Rattle.duplicates.specs.Duplicates.{covered, kept}
 use Rattle.plan.specs.Plan.{set_with, plan_words, verdict}
-
--- a number is that of one of these s_groups
-abbrev pub seen : List Made → ℕ → Bool
-seen ms m = list_any (λ g. eqb g.number m) ms
 
 -- the nodes from a place on are on the roster and make s of the set w, and behind their group is m
 pub record Noded (N : ℕ) (book t : List ℕ) (at w s m : ℕ) : Type 0 where

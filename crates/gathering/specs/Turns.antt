@@ -1,8 +1,9 @@
 -- The groups are taken one after another: what is known between two of them, what each turn makes of it, and what holds at the end. Assumes nothing.
 use Rattle.std.specs.Prelude.{◌≡◌, refl, Bool, true, false, List, [], ◌∷◌, ◌++◌, ℕ, suc, ◌+◌, ◌≤◌, ◌<◌, eqb, length, take, set, get_or, Ok, Some}
-use Rattle.std.proofs.Common.{sym, ap, ◌∙◌, arith, le-ltb, take-suc-set, length-set, length-append, append_assoc, append-nil}
+use Rattle.std.proofs.Common.{sym, ap, ◌∙◌, arith, le-ltb, take-suc-set, length-append, append_assoc, append-nil}
 use borrow.Author.Tests.{eq-eqb}
 use Rattle.pairs.specs.declared.Made.{Made}
+use Rattle.pairs.specs.Plans.{seen}
 use Rattle.pairs.specs.Woven.{woven, woven-append}
 use Rattle.semantics.specs.Sizes.{group_limit}
 use Rattle.tokens.specs.Reserved.{same}
@@ -19,7 +20,7 @@ use Rattle.duplicates.specs.Duplicates.{named}
 use Rattle.duplicates.specs.Names.{neither, apart, apart_snoc, apart-kept, apart-clash}
 use Rattle.plan.specs.Plan.{number_of, listed, all_listed, plan_words, fitting, verdict}
 use Rattle.plan.specs.Turns.{all_listed-append, plan_words-append}
-use Rattle.gathering.specs.Gathering.{seen, Noded, Planned}
+use Rattle.gathering.specs.Gathering.{Noded, Planned}
 
 -- ---- a number that was not seen
 
@@ -60,20 +61,18 @@ pub record Taken (N : ℕ) (book t : List ℕ) (g j : ℕ) (begun : Bool) (k : �
   pub few : k ≤ group_limit
   pub known : all_listed N book passed ≡ true
   pub lone : apart passed ≡ true
-  pub room : length written ≡ group_limit
   pub makes : woven (take k written) ≡ plan_words N book passed
 
 -- before the first
-pub taken_none : (N : ℕ) (book t : List ℕ) (g : ℕ) (written : List Made) → length written ≡ group_limit → Taken N book t g g false 0 written
+pub taken_none : (N : ℕ) (book t : List ℕ) (g : ℕ) (written : List Made) → Taken N book t g g false 0 written
 unfolding all_listed plan_words woven
-taken_none N book t g written h =
-    record { passed = []; parts = refl; ends = refl; many = refl; few = omega arith; known = refl; lone = refl; room = h; makes = refl }
+taken_none N book t g written = record { passed = []; parts = refl; ends = refl; many = refl; few = omega arith; known = refl; lone = refl; makes = refl }
 
 module _ (N : ℕ) (book t : List ℕ) (g j : ℕ) (begun : Bool) (k : ℕ) (written : List Made) (T : Taken N book t g j begun k written) where
   -- one more, whose number is new
   module _ (front : ℕ) (a : Atom) (opens : entry_at t j begun ≡ Ok (Entry.Group front)) (head : head_at t front ≡ Ok a)
       (m : Made) (number : Some m.number ≡ number_in N book (part t a.from a.to)) (less : k < group_limit)
-      (new : seen (take k written) m.number ≡ false) (next : ℕ) (peopled : Noded N book t a.past 0 m.set next) where
+      (room : length written ≡ group_limit) (new : seen (take k written) m.number ≡ false) (next : ℕ) (peopled : Noded N book t a.past 0 m.set next) where
     rest : groups_from t j begun ≡ group_at t a ∷ groups_from t next true
     rest = groups-unfold t j begun ∙ rw (opens, head, peopled.past)
 
@@ -99,11 +98,10 @@ module _ (N : ℕ) (book t : List ℕ) (g j : ℕ) (begun : Bool) (k : ℕ) (wri
       few = omega arith;
       known = all_listed-append N book T.passed (group_at t a ∷ []) ∙ rw (T.known, here);
       lone = apart_snoc T.passed (group_at t a) T.lone alone;
-      room = length-set written k m ∙ T.room;
       makes =
           let more : suc k ≡ k + 1 = omega arith in
-          let room : k < length written = omega (arith, T.room) in
-          rw (← more, take-suc-set written k m room, woven-append (take k written) m, T.makes, number-is, ← peopled.makes)
+          let in_room : k < length written = omega arith in
+          rw (← more, take-suc-set written k m in_room, woven-append (take k written) m, T.makes, number-is, ← peopled.makes)
           (sym (plan_words-append N book T.passed (group_at t a ∷ [])));
     }
 

@@ -4,19 +4,12 @@
 
 ghost use Rattle.std.specs.Prelude.{◌≡◌, ◌≤◌, IfSome};
 ghost use Rattle.semantics.specs.Sizes.{group_limit};
-ghost use Rattle.gathering.specs.Gathering.{seen, Noded, Planned};
+ghost use Rattle.gathering.specs.Gathering.{Noded, Planned};
 
 use book::Book;
 use layout::GROUP_LIMIT;
-use pairs::Made;
+use pairs::{Made, Plan};
 use walk::{Entry, Node};
-
-// Whether a number is that of one of these s_groups.
-fn seen(made: &[Made], number: u16) -> bool
-    ensures { result ≡ seen made.now number }
-{
-    made.iter().any(|group| group.number == number)
-}
 
 // The nodes from a place on, by the book, and the place behind their group; none where one is not on the roster, or the text stops.
 fn nodes_at(text: &[u8], at: usize, book: &Book) -> Option<(u64, usize)>
@@ -41,13 +34,8 @@ fn nodes_at(text: &[u8], at: usize, book: &Book) -> Option<(u64, usize)>
 
 // The groups of the list whose bracket stands in front of g, by a book. Where each is in the book and no two have one name: how many they are, and the place
 // behind their list; the first that are made are theirs. None where something about them wants a closer look.
-pub fn gather(
-    text: &[u8],
-    g: usize,
-    book: &Book,
-    made: &mut [Made; GROUP_LIMIT],
-) -> Option<(usize, usize)>
-    ensures { IfSome result (λ r. Planned book.now.nodes book.now.text.now text.now g made.new r.0 r.1) }
+pub fn gather(text: &[u8], g: usize, book: &Book, plan: &mut Plan) -> Option<(usize, usize)>
+    ensures { IfSome result (λ r. Planned book.now.nodes book.now.text.now text.now g plan.new r.0 r.1) }
 {
     let mut k = 0;
     let mut j = g;
@@ -61,11 +49,11 @@ pub fn gather(
                 if GROUP_LIMIT <= k {
                     return None;
                 }
-                if seen(&made[..k], number) {
+                if plan.has(k, number) {
                     return None;
                 }
                 let (set, next) = nodes_at(text, name.past, book)?;
-                made[k] = Made { number, set };
+                plan.put(k, Made { number, set });
                 k += 1;
                 j = next;
                 begun = true;

@@ -1,7 +1,7 @@
 // A table from a launch file.
 #![tactic(auto)]
 
-ghost use Rattle.std.specs.Prelude.{◌≡◌, true, ℕ, length};
+ghost use Rattle.std.specs.Prelude.{◌≡◌, ◌≤◌, true, ℕ, length, take};
 ghost use Rattle.answers.specs.Answers.{answer_of};
 ghost use Rattle.answers.specs.declared.Value.TheVariants as Value;
 ghost use Rattle.answers.specs.declared.Reason.TheVariants.{Done};
@@ -13,11 +13,12 @@ ghost use Rattle.launch_file.specs.Reading.{read_as};
 ghost use Rattle.pairs.specs.Woven.{woven};
 ghost use Rattle.creating.specs.Creating.{created};
 ghost use Rattle.semantics.specs.Call.{opening};
+ghost use Rattle.semantics.specs.Sizes.{group_limit};
 
 use answers::{Answer, Reason, Value, done, refused};
 use book::{Book, INDEX_SIZE};
-use layout::{GROUP_LIMIT, NODE_LIMIT, TABLE_WORDS};
-use pairs::Made;
+use layout::{NODE_LIMIT, TABLE_WORDS};
+use pairs::Plan;
 use plain_book::PlainBook;
 use plan::Misfit;
 
@@ -77,13 +78,14 @@ fn refusal_of(misfit: Misfit) -> Refusal
     Refusal { reason, place: 0 }
 }
 
-// The table is opened, and these s_groups are made.
-fn make(t: &mut [u64], n: u32, hidden: u64, made: &[Made])
-    requires { Open n hidden t.old }
-    ensures { t.new ≡ created (woven made.now) (opening n hidden t.old).table }
+// The table is opened, and the first `count` s_groups of a plan are made.
+fn make(t: &mut [u64], n: u32, hidden: u64, plan: &Plan, count: usize)
+    requires opens { Open n hidden t.old }
+    requires count_few { count ≤ group_limit }
+    ensures { t.new ≡ created (woven (take count plan.now)) (opening n hidden t.old).table }
 {
     opening::open(t, n, hidden);
-    creating::create(t, made);
+    creating::create(t, plan, count);
 }
 
 // The launch of a file that was read, on a run and a roster that are in order: it is a file whose groups stand at a place, or it is refused at one.
@@ -119,10 +121,10 @@ fn judged(
         text: book,
         nodes: n,
     };
-    let mut made = [Made { number: 0, set: 0 }; GROUP_LIMIT];
-    match plan::plan_of(file, g, &lines, start, &mut made) {
+    let mut plan = Plan::new();
+    match plan::plan_of(file, g, &lines, start, &mut plan) {
         Ok(count) => {
-            make(t, n, hidden, &made[..count]);
+            make(t, n, hidden, &plan, count);
             Ok(())
         }
         Err(misfit) => Err(refusal_of(misfit)),
@@ -163,14 +165,14 @@ fn at_once(
         nodes: n,
         index: &index,
     };
-    let mut made = [Made { number: 0, set: 0 }; GROUP_LIMIT];
-    let Some((count, end)) = gathering::gather(file, g, &indexed, &mut made) else {
+    let mut plan = Plan::new();
+    let Some((count, end)) = gathering::gather(file, g, &indexed, &mut plan) else {
         return false;
     };
     if !ended(file, end, whole) {
         return false;
     }
-    make(t, n, hidden, &made[..count]);
+    make(t, n, hidden, &plan, count);
     true
 }
 

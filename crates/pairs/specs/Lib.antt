@@ -1,2 +1,3 @@
--- `Woven` is the definition, and its laws. Assumes nothing.
+-- `Woven` reads s_groups as words, `Plans` says what list a plan is, each with its laws. Assumes nothing.
+pub mod Plans
 pub mod Woven

@@ -4,6 +4,7 @@ use Rattle.std.proofs.Math.Path.{refl, sym}
 use Rattle.std.proofs.Common.{ap, arith, length-drop, length-take-le}
 use Rattle.std.proofs.Math.Bool.{true, false, cond}
 use borrow.Author.Tests.{lt-ltb, le-ltb}
+use Rattle.pairs.specs.Plans.{made_of}
 use Rattle.pairs.specs.Woven.{woven, woven-length, woven-set}
 use Rattle.pairs.specs.declared.Made.{Made}
 use Rattle.nodes.specs.Sets.{with_node}
@@ -18,10 +19,6 @@ use Rattle.plan.specs.Plan.{number_of, set_with, set_of, listed}
 -- the nodes of a set and of these atoms, where every one is among the node atoms
 unfoldable pub members : List (List ℕ) → ℕ → List (List ℕ) → Option ℕ
 members atoms w ws = cond (covered ws atoms) (Some (set_with atoms w ws)) None
-
--- a group that is to be made, by its number and its nodes
-abbrev pub made_of : ℕ → ℕ → Made
-made_of number s = record { number = number; set = s }
 
 -- the group with this name and these nodes, where it is listed
 unfoldable pub entered : ℕ → List ℕ → List ℕ → List (List ℕ) → Option Made

@@ -1,5 +1,5 @@
 -- The groups are taken one after another: what is known between two of them, and what each turn makes of it. Assumes nothing.
-use Rattle.std.specs.Prelude.{◌≡◌, Result, Ok, Err, Bool, ◌&&◌, cond, ltb, set}
+use Rattle.std.specs.Prelude.{◌≡◌, Result, Ok, Err, Bool, ◌&&◌, set}
 use Rattle.std.proofs.Math.Path.{refl, sym, ap}
 use Rattle.std.proofs.Common.{◌∙◌, take_at, take-suc-set}
 use Rattle.std.proofs.Math.Bool.{true, false, and-false}
@@ -35,14 +35,6 @@ plan_words-append N book (k ∷ ks) gs = ap (λ l. number_of N book k ∷ set_of
 -- ---- the words of one more group
 
 module _ (words : List ℕ) (k number s : ℕ) where
-  put-length : length (put words k number s) ≡ length words
-  unfolding put
-  put-length = go (ltb k group_limit)
-    where
-      go : (b : Bool) → length (cond b (set (set words (2 * k) number) (2 * k + 1) s) words) ≡ length words
-      go true = simp length-set
-      go false = refl
-
   pub put-more : length words ≡ 2 * group_limit → k < group_limit → take (2 * (k + 1)) (put words k number s) ≡ take (2 * k) words ++ (number ∷ s ∷ [])
   unfolding put
   put-more room l =
@@ -66,15 +58,13 @@ pub record Taken (N : ℕ) (book : List ℕ) (all rest : List Group) (count k : 
   pub keeps : kept all ≡ done ++ kept_of all passed rest
   pub many : length done ≡ k
   pub known : all_listed N book done ≡ true
-  pub room : length words ≡ 2 * group_limit
   pub written : k ≤ group_limit → take (2 * k) words ≡ plan_words N book done
 
 module _ (N : ℕ) (book : List ℕ) (all : List Group) where
   -- before the first
-  pub taken_none : (words : List ℕ) → length words ≡ 2 * group_limit → Taken N book all all 0 0 words
+  pub taken_none : (words : List ℕ) → Taken N book all all 0 0 words
   unfolding all_listed plan_words
-  taken_none words h =
-      record { passed = []; done = []; parts = refl; counted = refl; keeps = refl; many = refl; known = refl; room = h; written = λ l. refl }
+  taken_none words = record { passed = []; done = []; parts = refl; counted = refl; keeps = refl; many = refl; known = refl; written = λ l. refl }
 
   module _ (rest : List Group) (count k : ℕ) (words : List ℕ) (T : Taken N book all rest count k words) where
     -- those that are passed are the first so many
@@ -105,7 +95,6 @@ module _ (N : ℕ) (book : List ℕ) (all : List Group) where
           keeps = T.keeps ∙ ap (λ l. T.done ++ l) (rw (is, here, h));
           many = T.many;
           known = T.known;
-          room = T.room;
           written = T.written;
         }
 
@@ -125,9 +114,9 @@ module _ (N : ℕ) (book : List ℕ) (all : List Group) where
 
         -- it is made, and is in the book
         pub taken_made : b ≡ true → listed N book g ≡ true → (number s : ℕ) → number ≡ number_of N book g → s ≡ set_of N book g → (ws : List ℕ)
-            → ws ≡ put words k number s → Taken N book all gs (count + 1) (k + 1) ws
+            → (k < group_limit → length words ≡ 2 * group_limit) → ws ≡ put words k number s → Taken N book all gs (count + 1) (k + 1) ws
         unfolding all_listed plan_words
-        taken_made h n number s p q ws e = record {
+        taken_made h n number s p q ws room e = record {
           passed = T.passed ++ (g ∷ []);
           done = T.done ++ (g ∷ []);
           parts = onward;
@@ -135,8 +124,7 @@ module _ (N : ℕ) (book : List ℕ) (all : List Group) where
           keeps = keeps-it h ∙ sym (append_assoc T.done (g ∷ []) (kept_of all (T.passed ++ (g ∷ [])) gs));
           many = length-append T.done (g ∷ []) ∙ omega (arith, T.many);
           known = all_listed-append N book T.done (g ∷ []) ∙ rw (T.known, n);
-          room = ap length e ∙ put-length words k number s ∙ T.room;
-          written = λ l. ap (take (2 * (k + 1))) e ∙ put-more words k number s T.room (omega arith) ∙ written-more (omega arith);
+          written = λ l. ap (take (2 * (k + 1))) e ∙ put-more words k number s (room (omega arith)) (omega arith) ∙ written-more (omega arith);
         }
           where
             written-more : k ≤ group_limit → take (2 * k) words ++ (number ∷ s ∷ []) ≡ plan_words N book (T.done ++ (g ∷ []))

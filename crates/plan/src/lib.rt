@@ -1,7 +1,7 @@
 // What is to be made of the groups of a launch file: the number and the nodes of each, by the book.
 #![tactic(auto)]
 
-ghost use Rattle.std.specs.Prelude.{◌≡◌, Ok, ℕ, ◌*◌, length, take};
+ghost use Rattle.std.specs.Prelude.{◌≡◌, Ok, ℕ, ◌*◌, ◌<◌, length, take};
 ghost use Rattle.pairs.specs.Woven.{woven};
 ghost use Rattle.semantics.specs.Sizes.{group_limit};
 ghost use Rattle.walk.specs.Groups.{nodes, groups};
@@ -11,7 +11,7 @@ ghost use Rattle.plan.specs.Plan.{plan_words, fitting, verdict};
 ghost use Rattle.plan.specs.Looked.{members, entered, put};
 
 use layout::GROUP_LIMIT;
-use pairs::Made;
+use pairs::{Made, Plan};
 use plain_book::PlainBook;
 
 // What speaks against the groups, first of all.
@@ -48,21 +48,20 @@ fn enter(text: &[u8], name: &[u8], at: usize, book: &PlainBook<'_>) -> Option<Ma
 
 // The group k is written, where there is room for it.
 #[tactic(auto, using(crate::proofs::Steps::put_steps))]
-fn put(made: &mut [Made], k: usize, group: Made)
-    requires { length made.old ≡ group_limit }
-    ensures { woven made.new ≡ put (woven made.old) k group.number group.set }
+fn put(plan: &mut Plan, k: usize, group: Made)
+    ensures room { k < group_limit → length plan.old ≡ group_limit }
+    ensures written { woven plan.new ≡ put (woven plan.old) k group.number group.set }
 {
     if k < GROUP_LIMIT {
-        made[k] = group;
+        plan.put(k, group);
     }
 }
 
 // The plan where no node clashes.
 #[tactic(auto, using(duplicates::specs::Next::next_groups))]
-fn fitted(text: &[u8], g: usize, book: &PlainBook<'_>, made: &mut [Made]) -> Result<usize, Misfit>
-    requires { length made.old ≡ group_limit }
+fn fitted(text: &[u8], g: usize, book: &PlainBook<'_>, plan: &mut Plan) -> Result<usize, Misfit>
     ensures value { result ≡ fitting book.now.nodes book.now.text.now (kept (groups text.now g)) }
-    ensures by_index { (k : ℕ) → result ≡ Ok k → take (2 * k) (woven made.new) ≡ plan_words book.now.nodes book.now.text.now (kept (groups text.now g)) }
+    ensures by_index { (k : ℕ) → result ≡ Ok k → take (2 * k) (woven plan.new) ≡ plan_words book.now.nodes book.now.text.now (kept (groups text.now g)) }
 {
     let mut count = 0;
     let mut k = 0;
@@ -72,7 +71,7 @@ fn fitted(text: &[u8], g: usize, book: &PlainBook<'_>, made: &mut [Made]) -> Res
         let name = &text[group.from..group.to];
         if duplicates::made(text, g, count, name, group.nodes) {
             let next = enter(text, name, group.nodes, book).ok_or(Misfit::Unknown)?;
-            put(made, k, next);
+            put(plan, k, next);
             k += 1;
         }
         count += 1;
@@ -92,14 +91,13 @@ pub fn plan_of(
     g: usize,
     book: &PlainBook<'_>,
     start: u32,
-    made: &mut [Made],
+    plan: &mut Plan,
 ) -> Result<usize, Misfit>
-    requires { length made.old ≡ group_limit }
     ensures value { result ≡ verdict book.now.nodes book.now.text.now start (groups text.now g) }
-    ensures by_index { (k : ℕ) → result ≡ Ok k → take (2 * k) (woven made.new) ≡ plan_words book.now.nodes book.now.text.now (kept (groups text.now g)) }
+    ensures by_index { (k : ℕ) → result ≡ Ok k → take (2 * k) (woven plan.new) ≡ plan_words book.now.nodes book.now.text.now (kept (groups text.now g)) }
 {
     if duplicates::clashes(text, g, book::line(book.text, start as usize)) {
         return Err(Misfit::Clash);
     }
-    fitted(text, g, book, made)
+    fitted(text, g, book, plan)
 }

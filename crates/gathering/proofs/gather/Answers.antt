@@ -6,7 +6,7 @@ use Rattle.gathering.proofs.Read.{was_read}
 use Rattle.gathering.proofs.gather.Goals as goal
 
 pub loop-end-init : goal.loop-end-init
-loop-end-init c = taken_none _ _ _ _ _ (omega arith)
+loop-end-init c = taken_none _ _ _ _ _
 
 pub returns-in-Closed : goal.returns-in-Closed
 returns-in-Closed c =
@@ -33,5 +33,6 @@ pub loop-end-preserved : goal.loop-end-preserved
 loop-end-preserved c =
     let opens = sym c.entry_at.ensures ∙ was_read _ _ c.ok.ensures.value c.in_ok-end.was ∙ ap Ok c.in-Group.is in
     let head = sym c.head_at.ensures ∙ was_read _ _ c.ok-in-Group.ensures.value c.in_ok-name-in-Group.was in
-    taken_more _ _ _ _ _ _ _ _ c.loop-end.invariant _ _ opens head _ c.in_ok-number-in-Group.ensures c.if-k-ge-GROUP_LIMIT.false
-    (sym c.seen.ensures ∙ c.if-seen.false) _ c.in_ok-set-in-Group.ensures
+    rw c.put.ensures.written
+    (taken_more _ _ _ _ _ _ _ _ c.loop-end.invariant _ _ opens head _ c.in_ok-number-in-Group.ensures c.if-k-ge-GROUP_LIMIT.false
+    c.put.ensures.room (sym c.has.ensures ∙ c.if-has.false) _ c.in_ok-set-in-Group.ensures)

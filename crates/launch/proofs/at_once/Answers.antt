@@ -1,6 +1,6 @@
 -- `launch::at_once` meets its contract: the book is fit, one walk gathered the groups, and the file is whole; otherwise nothing was written.
 -- Assumes nothing.
-use Rattle.std.proofs.Common.{sym, ◌∙◌, arith, length-take-le}
+use Rattle.std.proofs.Common.{sym, ◌∙◌}
 use Rattle.launch.proofs.LaunchLaws.{fits-few, not-at-once, made-at-once}
 use Rattle.launch.proofs.at_once.Goals as goal
 
@@ -10,11 +10,8 @@ returns-then-not-fit c = not-at-once
 pub returns-then-not-ended : goal.returns-then-not-ended
 returns-then-not-ended c = not-at-once
 
-pub slice_bounds-made-end : goal.slice_bounds-made-end
-slice_bounds-made-end c = omega (arith, fits-few _ _ 0 _ _ (sym (c.in-Some.ensures.fits 0)))
-
-pub slice_bounds-make-end : goal.slice_bounds-make-end
-slice_bounds-make-end c = sym (length-take-le _ _ (omega (arith, fits-few _ _ 0 _ _ (sym (c.in-Some.ensures.fits 0)))))
+pub make-requires-clause-count_few : goal.make-requires-clause-count_few
+make-requires-clause-count_few c = fits-few _ _ 0 _ _ (sym (c.in-Some.ensures.fits 0))
 
 pub returns : goal.returns
 returns c =

@@ -1,6 +1,6 @@
 -- `launch::judged` meets its contract: the book, then the file, then the plan of its groups decide.
 -- Assumes nothing.
-use Rattle.std.proofs.Common.{refl, sym, ap, ◌∙◌, arith, length-take-le}
+use Rattle.std.proofs.Common.{refl, sym, ap, ◌∙◌}
 use Rattle.launch_file.specs.Reading.{read_as}
 use Rattle.walk.specs.Groups.{groups}
 use Rattle.answers.specs.Answers.{answer_of}
@@ -22,11 +22,8 @@ returns-in-Err c =
     in
     record { result_value = both.0; result_value_2 = both.1.0; t_after = both.1.1 }
 
-pub slice_bounds-made-end : goal.slice_bounds-made-end
-slice_bounds-made-end c = omega (arith, fits-few _ _ _ _ _ (sym c.in-Ok-plan_of.is ∙ c.plan_of.ensures.value))
-
-pub slice_bounds-make-end : goal.slice_bounds-make-end
-slice_bounds-make-end c = sym (length-take-le _ _ (omega (arith, fits-few _ _ _ _ _ (sym c.in-Ok-plan_of.is ∙ c.plan_of.ensures.value))))
+pub make-requires-clause-count_few : goal.make-requires-clause-count_few
+make-requires-clause-count_few c = fits-few _ _ _ _ _ (sym c.in-Ok-plan_of.is ∙ c.plan_of.ensures.value)
 
 pub returns-in-Ok-plan_of : goal.returns-in-Ok-plan_of
 returns-in-Ok-plan_of c =

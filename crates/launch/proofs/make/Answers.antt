@@ -10,8 +10,8 @@ use Rattle.launch.proofs.make.Goals as goal
 
 pub create-requires : goal.create-requires
 create-requires c =
-    let ok = ap (sound names_per_group) c.open.ensures.t_after ∙ opened-sound _ _ _ c.requires in
-    record { t_len = (test-regular names_per_group _ ok).2; t_value = ok }
+    let ok = ap (sound names_per_group) c.open.ensures.t_after ∙ opened-sound _ _ _ c.requires.opens in
+    record { count_few = c.requires.count_few; t_len = (test-regular names_per_group _ ok).2; t_value = ok }
 
 pub returns : goal.returns
 returns c = c.create.ensures ∙ ap (created _) c.open.ensures.t_after

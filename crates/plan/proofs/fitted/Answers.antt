@@ -12,7 +12,7 @@ use Rattle.plan.proofs.fitted.Goals as goal
 use Rattle.plan.proofs.fitted.Goals.{then-made+in_ok-next, else-made}
 
 pub loop-group-init : goal.loop-group-init
-loop-group-init c = (omega arith, omega arith, taken_none _ _ _ _ (woven-room _ c.requires))
+loop-group-init c = (omega arith, omega arith, taken_none _ _ _ _)
 
 pub returns-in_err-next-clause-value : goal.returns-in_err-next-clause-value
 returns-in_err-next-clause-value c =
@@ -31,12 +31,12 @@ loop-group-preserved c =
           let u = entered-told _ _ _ _ (sym e ∙ w.enter.ensures) in (
             omega (arith, n.1.0, n.1.1),
             omega (arith, w.k-is),
-            rw (w.made-is, w.k-is) (taken_made _ _ _ _ _ _ _ T _ _ n.0 _ c.made.ensures w.if-made.true u.0 _ _ u.1 u.2 _ w.put.ensures),
+            rw (w.plan-is, w.k-is) (taken_made _ _ _ _ _ _ _ T _ _ n.0 _ c.made.ensures w.if-made.true u.0 _ _ u.1 u.2 _ (λ l. woven-room _ (w.put.ensures.room l)) w.put.ensures.written),
           )
       | else-made w ↦ (
         omega (arith, n.1.0, n.1.1),
         omega (arith, w.k-is),
-        rw (w.made-is, w.k-is) (taken-left _ _ _ _ _ _ _ T _ _ n.0 _ c.made.ensures w.if-made.false),
+        rw (w.plan-is, w.k-is) (taken-left _ _ _ _ _ _ _ T _ _ n.0 _ c.made.ensures w.if-made.false),
       )
     ]
 

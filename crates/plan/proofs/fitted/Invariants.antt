@@ -9,7 +9,7 @@ use Rattle.plan.proofs.fitted.Given as goal
 abbrev pub invariant-loop-group : goal.invariant-loop-group
 invariant-loop-group l =
     (l.count ≤ l.j) × (l.k ≤ l.count)
-    × Taken l.book.nodes l.book.text.now (groups l.text l.g) (groups_from l.text l.j l.begun) l.count l.k (woven l.made)
+    × Taken l.book.nodes l.book.text.now (groups l.text l.g) (groups_from l.text l.j l.begun) l.count l.k (woven l.plan)
 
 abbrev pub decreases-loop-group : goal.decreases-loop-group
 decreases-loop-group l = length l.text - l.j

@@ -1,10 +1,10 @@
 #!/usr/bin/env bash
-# Where the library for C has arrays of its own: in the tests of a table and of an index, and in launching. Every other crate on the way of a call has none, and the kit has
-# no heap: so no step has room for a copy of a namespace, of a table or of an index.
+# Where the library for C has arrays of its own: in the tests of a table and of an index, and in launching, whose plan is `pairs::Plan`. Every other crate on the way of a call has
+# none, and the kit has no heap: so no step has room for a copy of a namespace, of a table or of an index.
 set -uo pipefail
 cd "$(dirname "${BASH_SOURCE[0]}")/.."
 library=sgroup_c
-scratch='links_test groups_test index_test launch'
+scratch='links_test groups_test index_test pairs launch'
 
 # The library and what it rests on, by crates.txt, where a crate stands behind those that it names.
 crates=$(awk -F: -v top="$library" '
@@ -19,13 +19,13 @@ crates=$(awk -F: -v top="$library" '
     }' crates.txt)
 
 # Lines of a crate's code with an array of one element or more that takes room in a call: its type, or how it is made, of one value or of several, or a copy of one that
-# is borrowed. A borrowed array, a static and the name of a type take none.
+# is borrowed, or a new plan. A borrowed array, a static and the name of a type take none.
 arrays() {
     local code borrowed
     code=$(find "crates/$1/src" -name '*.rt' -exec sed 's,//.*,,' {} +)
     borrowed=$(grep -oE "[a-z_]+: &('[a-z]+ )?(mut )?(\[[^];[]+; *[^]]+\]|Index\b)" <<<"$code" | sed 's/:.*//' | sort -u | paste -sd'|')
     sed -E "/^(pub )?(static|type) /d; s/&('[a-z]+ )?(mut )?(\[\[[^];[]+; *[^]]+\]\]|\[[^];[]+; *[^]]+\])/\&/g" <<<"$code" |
-        grep -E '\[[^];[]+; *[^]]*[^] 0]+[^]]*\]|= *\[[^]]*,'"${borrowed:+|[=(,] *\*($borrowed)[;,)]}"
+        grep -E '\[[^];[]+; *[^]]*[^] 0]+[^]]*\]|= *\[[^]]*,|Plan::new\('"${borrowed:+|[=(,] *\*($borrowed)[;,)]}"
 }
 
 bad=0

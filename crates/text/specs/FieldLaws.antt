@@ -17,20 +17,20 @@ find-within b (x ∷ xs) = go (eqb x b) (find-within b xs)
     go false h = omega arith
 
 -- where one is found, it is the first, and within the list
-pub found_some : (b i : ℕ) (s : List ℕ) → found_in b s ≡ Some i → (i ≡ find_in b s) × (i < length s)
+pub found_some : (b i : ℕ) (s : List ℕ) → Some i ≡ found_in b s → (i ≡ find_in b s) × (i < length s)
 unfolding found_in
 found_some b i s h = go (ltb (find_in b s) (length s)) refl h
   where
-    go : (t : Bool) → ltb (find_in b s) (length s) ≡ t → cond t (Some (find_in b s)) None ≡ Some i → (i ≡ find_in b s) × (i < length s)
-    go true e f = let g : find_in b s ≡ i = cc in let l = ltb-true _ _ e in (omega arith, omega arith)
+    go : (t : Bool) → ltb (find_in b s) (length s) ≡ t → Some i ≡ cond t (Some (find_in b s)) None → (i ≡ find_in b s) × (i < length s)
+    go true e f = let g : i ≡ find_in b s = cc in let l = ltb-true _ _ e in (omega arith, omega arith)
     go false e f = absurd (cc)
 
 -- where none is, the list is passed
-pub found_none : (b : ℕ) (s : List ℕ) → found_in b s ≡ None → length s ≤ find_in b s
+pub found_none : (b : ℕ) (s : List ℕ) → None ≡ found_in b s → length s ≤ find_in b s
 unfolding found_in
 found_none b s h = go (ltb (find_in b s) (length s)) refl h
   where
-    go : (t : Bool) → ltb (find_in b s) (length s) ≡ t → cond t (Some (find_in b s)) None ≡ None → length s ≤ find_in b s
+    go : (t : Bool) → ltb (find_in b s) (length s) ≡ t → None ≡ cond t (Some (find_in b s)) None → length s ≤ find_in b s
     go true e f = absurd (cc)
     go false e f = ltb-false _ _ e
 

@@ -36,17 +36,15 @@ struct Head {
 fn first(s: &[u8]) -> Head
     ensures { (result.size ≡ size_of (first_line s.now)) × (result.request ≡ asks (first_line s.now)) }
 {
-    let e = text::find(s, b'\n');
-    if e < s.len() {
-        let request = line::request_of(&s[..e]);
+    let Some(end) = text::find(s, b'\n') else {
         return Head {
-            size: e + 1,
-            request,
+            size: s.len(),
+            request: None,
         };
-    }
+    };
     Head {
-        size: s.len(),
-        request: None,
+        size: end + 1,
+        request: line::request_of(&s[..end]),
     }
 }
 
@@ -97,7 +95,8 @@ pub fn bad_line(script: &[u8]) -> Option<usize>
 {
     let mut from = 0;
     let mut number = 1;
-    // The same walk by `first` as in `run`, so that both mean the same lines.
+    // The same walk by `first` as in `run`, so that both mean the same lines. An iterator over heads would serve this loop alone, and be longer than it is: `run` needs
+    // the place that it stands at.
     while from < script.len() {
         let head = first(&script[from..]);
         if head.request.is_none() {

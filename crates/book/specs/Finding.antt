@@ -131,3 +131,9 @@ module _ (n : ℕ) (t a : List ℕ) (f : fit n t ≡ true) where
     -- whose number has 16 bits
     pub number-fits : n ≤ p → p - n + 1 ≤ group_atoms
     number-fits h = omega (arith, inside, fit-few n t f)
+
+-- an atom among the atoms of the nodes, by its place
+pub ruleset node_placed = (node-found, node-missed, node-none)
+
+-- and its number among those of the groups
+pub ruleset group_placed = (number_of-group, number_of-node, number_of-none, number-fits)

@@ -238,6 +238,7 @@ impl Book<'_> {
     }
 
     // The place of an atom among the node atoms; none where it is none of them.
+    #[tactic(auto, using(crate::specs::Finding::node_placed))]
     pub fn node_of(&self, atom: &[u8]) -> Option<u32>
         ensures { result ≡ found_among atom.now (node_atoms self.now.nodes self.now.text.now) }
     {
@@ -249,6 +250,7 @@ impl Book<'_> {
     }
 
     // The number of an atom among the group atoms, from 1; none where it is none of them.
+    #[tactic(auto, using(crate::specs::Finding::group_placed))]
     pub fn group_of(&self, atom: &[u8]) -> Option<u16>
         ensures { result ≡ number_in self.now.nodes self.now.text.now atom.now }
     {

@@ -35,6 +35,7 @@ pub fn fits(book: &[u8], n: u32) -> bool
 
 impl PlainBook<'_> {
     // The place of an atom among the node atoms; none where it is none of them.
+    #[tactic(auto, using(book::specs::Finding::node_placed))]
     pub fn node_in(&self, atom: &[u8]) -> Option<u32>
         ensures { result ≡ found_among atom.now (node_atoms self.now.nodes self.now.text.now) }
     {
@@ -46,6 +47,7 @@ impl PlainBook<'_> {
     }
 
     // The number of an atom among the group atoms, from 1; none where it is none of them.
+    #[tactic(auto, using(book::specs::Finding::group_placed))]
     pub fn group_in(&self, atom: &[u8]) -> Option<u16>
         ensures { result ≡ number_in self.now.nodes self.now.text.now atom.now }
     {

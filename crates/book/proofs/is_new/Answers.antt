@@ -23,13 +23,6 @@ unmarked ls x a m h = go (among ls a) refl
     go true e = absurd (true≢false (sym (m a e) ∙ h))
     go false e = refl
 
-pub returns-then-not-met : goal.returns-then-not-met
-returns-then-not-met c =
-    let e : c.mark_of.result % mark_count ≡ atom_mark c.args.atom.now = ap (λ (k : ℕ). k % mark_count) c.mark_of.ensures in (
-      unmarked _ c.args.index.now c.args.atom.now c.requires.marked (ap (has_mark c.args.index.now) (sym e) ∙ sym c.has_mark-met.ensures ∙ c.if-not-met.true),
-      c.set_mark.ensures ∙ rw e,
-    )
-
 pub among_first-requires : goal.among_first-requires
 among_first-requires c =
     let p = places_marked 0 _ _ _ _ c.requires _ _ (omega arith) c.set_mark.ensures c.if-count-le-INDEXED_LINES.true in
@@ -39,10 +32,6 @@ pub returns-then-count-le-INDEXED_LINES : goal.returns-then-count-le-INDEXED_LIN
 returns-then-count-le-INDEXED_LINES c =
     let e : c.mark_of.result % mark_count ≡ atom_mark c.args.atom.now = ap (λ (k : ℕ). k % mark_count) c.mark_of.ensures in
     (ap not (c.among_first.ensures ∙ ap (λ (ls : List (List ℕ)). among ls c.args.atom.now) (first_lines _ _ _ c.requires.passed).0), c.set_mark.ensures ∙ rw e)
-
-pub slice_bounds-seek-end : goal.slice_bounds-seek-end
-slice_bounds-seek-end c =
-    sym (length-take-le _ _ c.requires.passed.within)
 
 pub returns : goal.returns
 returns c =

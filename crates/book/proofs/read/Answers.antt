@@ -21,9 +21,6 @@ loop-at-init c =
 pub returns-in_default : goal.returns-in_default
 returns-in_default c = refused _ _ _ (no-line _ _ _ _ _ c.loop-at.invariant c.loop-at-test.true c.in_default.ensures)
 
-pub is_new-requires : goal.is_new-requires
-is_new-requires c = c.loop-at.invariant
-
 pub returns-then-not-is_new : goal.returns-then-not-is_new
 returns-then-not-is_new c =
     let e = end-found _ _ _ c.in-Some.ensures in

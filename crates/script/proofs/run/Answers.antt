@@ -7,9 +7,6 @@ use mathlib.Core.Path.{sym, ◌∙◌}
 use native.Mathlib.Omega.{arith}
 use Rattle.script.proofs.run.Goals as goal
 
-pub returns-then-script-gt-SCRIPT_LIMIT : goal.returns-then-script-gt-SCRIPT_LIMIT
-returns-then-script-gt-SCRIPT_LIMIT c = c.refuse.ensures _
-
 pub returns-then-out-len-lt-LINE_ROOM : goal.returns-then-out-len-lt-LINE_ROOM
 returns-then-out-len-lt-LINE_ROOM c = sym (c.loop-at.invariant.4 ∙ run-full _ _ _ _ _ c.loop-at-test.true (omega arith))
 

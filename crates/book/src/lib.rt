@@ -1,5 +1,6 @@
 // The name book of a launch: one atom a line, those of the nodes first, in the order of the roster, then those of the groups.
-// An index of 512 lent bytes is made while a book is tested; it leads from an atom to its line.
+// An index of 512 lent bytes is made while a book is tested; it leads from an atom to its line. What makes it takes the text, the number of nodes and the index side
+// by side: a struct with a fact has one fact, and here each function knows another (`Holds`, `Places`, `Reading`, `Noted`), up to that of `Book` at the end.
 #![tactic(auto)]
 
 ghost use Rattle.std.specs.Prelude.{◌≡◌, true, not, ◌&&◌, [], ◌≤◌, ◌<◌, leb, length, get_or, take, IfSome};

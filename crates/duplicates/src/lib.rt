@@ -1,4 +1,5 @@
-// Groups of one name in a launch file. The groups are not stored: g is the place behind the bracket of their list, and each function walks the text from there.
+// Groups of one name in a launch file. The groups are not stored: g is the place behind the bracket of their list, and each function walks the text from there. The
+// text and its places come side by side, as in `walk`: the callers hold a text and have another place at each call, so that a struct of both would be made for every call.
 #![tactic(auto)]
 
 ghost use Rattle.std.specs.Prelude.{◌≡◌, false, not, ◌||◌, take};

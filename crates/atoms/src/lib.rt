@@ -16,7 +16,8 @@ const HIGH_FACTOR: u64 = 1540483477;
 
 const LOW_DIGITS: u64 = 16777216;
 
-// The two bytes at a place as one number.
+// The two bytes at a place as one number. Here and below a text and a place stand side by side: each call has another place, so that a struct of both would be made
+// for every call.
 pub fn two(text: &[u8], at: usize) -> u64
     requires { at + 2 ≤ length text.now }
     ensures { (result ≡ two text.now at) × (result < 65536) }

@@ -1,7 +1,8 @@
 -- Laws of lines: the first of them, those of two texts, and where a text ends. Assumes nothing.
-use Rattle.std.specs.Prelude.{◌≡◌, refl, Bool, true, false, cond, List, [], ◌∷◌, ◌++◌, ℕ, suc, ◌-◌, ◌≤◌, ◌<◌, eqb, length, take, drop}
-use Rattle.std.proofs.Common.{sym, ◌∙◌, le_refl, arith}
-use Rattle.text.specs.Text.{newline, find_in}
+use Rattle.std.specs.Prelude.{◌≡◌, refl, Bool, true, false, cond, List, [], ◌∷◌, ◌++◌, ℕ, suc, ◌+◌, ◌-◌, ◌≤◌, ◌<◌, eqb, length, take, drop, Some, None}
+use Rattle.std.proofs.Common.{sym, ◌∙◌, add-one, le_refl, arith}
+use Rattle.text.specs.Text.{newline, find_in, found_in}
+use Rattle.text.specs.FieldLaws.{found_some, found_none}
 use Rattle.book.specs.Book.{in_front, lines, ended}
 
 -- ---- the first line
@@ -29,6 +30,21 @@ lines_none (x ∷ xs) h = go (eqb x newline) h (lines_none xs)
         → cond t ([] ∷ lines xs) (in_front x (lines xs)) ≡ []
     go true h f = absurd (omega arith)
     go false h f = rw (f (omega arith))
+
+-- so the first line ends where a newline is found, and the others stand behind it
+pub lines-next : (t : List ℕ) (e : ℕ) → Some e ≡ found_in newline t → lines t ≡ take e t ∷ lines (drop (e + 1) t)
+lines-next t e h =
+    let f = found_some newline e t h in
+    rw (lines-first t (omega (arith, f)), ← f.0, add-one)
+
+pub line-within : (t : List ℕ) (e : ℕ) → Some e ≡ found_in newline t → e < length t
+line-within t e h = (found_some newline e t h).1
+
+pub lines-over : (t : List ℕ) → None ≡ found_in newline t → lines t ≡ []
+lines-over t h = lines_none t (found_none newline t h)
+
+-- the next line
+pub ruleset next_line = (lines-next, line-within, lines-over)
 
 -- a text has no more lines than bytes
 pub lines-count : (t : List ℕ) → length (lines t) ≤ length t

@@ -1,12 +1,15 @@
 -- Laws of lines that are told apart, and of the place of an atom among them. Assumes nothing.
 use Rattle.std.specs.Prelude.{◌≡◌, refl, ◌⊎◌, Bool, true, false, not, ◌&&◌, ◌||◌, cond, List, [], ◌∷◌, ◌++◌, ℕ, zero, suc, ◌+◌, ◌-◌, ◌≤◌, ◌<◌, leb, ltb, length, get_or, take, drop}
+use Rattle.std.specs.List.{position, position_or_len}
+use Rattle.std.proofs.lemmas.List.Recursion.{is_position_or_len}
+use Rattle.std.proofs.Math.Numerals.{one-add}
 use Rattle.std.proofs.Common.{sym, ap, ◌∙◌, inl, inr, ⊎_elim, true≢false, add-one, arith, lt-ltb, le-ltb, take-suc, get_or-take, length-take-le}
 use Rattle.std.proofs.lemmas.Bool.{false≢true, not-true}
 use Rattle.std.proofs.Math.Bool.{and-false, or-true, or-false}
 use Rattle.nodes.specs.Bools.{by_lt}
 use Rattle.tokens.specs.Reserved.{same, among}
 use Rattle.tokens.specs.Words.{same_eq, same_refl, same_by}
-use Rattle.book.specs.Book.{longest_atom, all_atoms, distinct, place_of}
+use Rattle.book.specs.Book.{longest_atom, all_atoms, distinct, place_of, found_among}
 
 -- ---- two tests
 
@@ -110,6 +113,15 @@ place-among a (l ∷ ls) = go (same a l) (place-among a ls)
     go true h = lt-ltb 0 (suc (length ls)) (omega arith)
     go false h = ltb-suc (place_of a ls) (length ls) ∙ h
 
+place-position : (a : List ℕ) (ls : List (List ℕ)) → place_of a ls ≡ position_or_len (same a) ls
+unfolding place_of
+place-position a ls = is_position_or_len (place_of a) (same a) refl (λ x xs. rw one-add) ls
+
+-- so it is found where the first line is that is the atom
+pub found_position : (a : List ℕ) (ls : List (List ℕ)) → position (same a) ls ≡ found_among a ls
+unfolding found_among
+found_position a ls = rw (← place-among a ls, place-position a ls)
+
 among-own : (ls : List (List ℕ)) (i : ℕ) → i < length ls → among ls (get_or ls i []) ≡ true
 unfolding among
 among-own [] i h = absurd (omega arith)
@@ -170,7 +182,7 @@ place_past_first (suc n) a (x ∷ xs) h l = go (same a x) h (place_past_first n 
     go false h f = let p = f (omega arith) (omega arith) in (ap suc p.0, p.1 ∙ omega arith)
 
 -- an atom that is none of the lines has the place behind them
-place_none : (a : List ℕ) (ls : List (List ℕ)) → among ls a ≡ false → place_of a ls ≡ length ls
+pub place_none : (a : List ℕ) (ls : List (List ℕ)) → among ls a ≡ false → place_of a ls ≡ length ls
 unfolding place_of among
 place_none a [] h = refl
 place_none a (l ∷ ls) h = let p = neither (same a l) (among ls a) h in rw p.0 (ap suc (place_none a ls p.1))

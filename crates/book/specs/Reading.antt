@@ -1,5 +1,5 @@
 -- A book that is read line by line, while its index is made. Assumes nothing.
-use Rattle.std.specs.Prelude.{◌≡◌, refl, Bool, false, ◌&&◌, ℕ, ◌+◌, ◌-◌, ◌*◌, ◌≤◌, ◌<◌, length, take, drop}
+use Rattle.std.specs.Prelude.{◌≡◌, refl, Bool, false, None, ◌&&◌, ℕ, ◌+◌, ◌-◌, ◌*◌, ◌≤◌, ◌<◌, length, take, drop}
 use Rattle.std.proofs.Math.Path.{sym}
 use Rattle.std.proofs.Common.{ap, ◌∙◌, ⊎_elim, arith, length-drop, length-take-le}
 use Rattle.std.proofs.Math.Bool.{true, and-false, or-true}
@@ -16,7 +16,7 @@ use Rattle.book.specs.Book.{longest_atom, group_atoms, lines, ended, all_atoms, 
 use Rattle.book.specs.Index.{indexed_lines, group_number, atom_mark, Marked, Holds, Places, Noted}
 use Rattle.book.specs.LineLaws.{lines-count, ended-without}
 use Rattle.book.specs.PlaceLaws.{atoms-more, atoms-spoiled, among_last, distinct_more, distinct-spoiled}
-use Rattle.book.specs.Passing.{Passed, first_lines, end-left, all_passed, lines_more, passed-more, lines-here, line-here}
+use Rattle.book.specs.Passing.{Passed, atom_end, group_count, end-missed, groups-uncounted, first_lines, end-left, all_passed, lines_more, passed-more, lines-here, line-here}
 
 -- i lines are passed, up to a place; the index has their marks, and the places of those that it has room for
 pub record Reading (t x : List ℕ) (i at : ℕ) : Type 0 where
@@ -189,6 +189,16 @@ module _ (n : ℕ) (t x : List ℕ) (i at : ℕ) (R : Reading t x i at) where
                 line_is = rw (from, here, k) (sym (line-here t i at R.passed e at-end more));
               }
 
+  -- the next line has no end, or is no atom
+  pub no-line : at < length t → None ≡ atom_end t at → fit n t ≡ false
+  no-line h q =
+      ⊎_elim
+      (λ (l : length (drop at t) ≤ find_in newline (drop at t)). no-newline h (omega (arith, length-drop at t)))
+      (λ (l : (at + find_in newline (drop at t) < length t) × ((leb 1 (find_in newline (drop at t)) && leb (find_in newline (drop at t)) longest_atom) ≡ false)).
+      let k : at + find_in newline (drop at t) - at ≡ find_in newline (drop at t) = omega arith in
+      no-atom (at + find_in newline (drop at t)) refl l.0 (rw k l.1))
+      (end-missed t at h q)
+
   -- ---- the end
 
   module _ (read : length t ≤ at) where
@@ -198,11 +208,14 @@ module _ (n : ℕ) (t x : List ℕ) (i at : ℕ) (R : Reading t x i at) where
     count : i ≡ length (lines t)
     count = (all_passed t i at R.passed read).1
 
-    pub too_few : i < n → fit n t ≡ false
+    too_few : i < n → fit n t ≡ false
     too_few h = unfit-few n t (omega (arith, count))
 
-    pub too_many : n + group_atoms < i → fit n t ≡ false
+    too_many : n + group_atoms < i → fit n t ≡ false
     too_many h = unfit-many n t (omega (arith, count))
+
+    pub no-book : None ≡ group_count i n → fit n t ≡ false
+    no-book h = ⊎_elim (λ (k : i < n). too_few k) (λ (k : n + group_atoms < i). too_many k) (groups-uncounted i n h)
 
     module _ (enough : n ≤ i) (few : i ≤ n + group_atoms) where
       pub is-book : fit n t ≡ true

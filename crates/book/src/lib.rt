@@ -1,12 +1,16 @@
 // The name book of a launch: one atom a line, those of the nodes first, in the order of the roster, then those of the groups.
-// An index of 512 lent bytes is made while a book is tested; it leads from an atom to its line.
+// An index of 512 lent bytes is made while a book is tested; it leads from an atom to its line. What makes it takes the text, the number of nodes and the index side
+// by side: a struct with a fact has one fact, and here each function knows another (`Holds`, `Places`, `Reading`, `Noted`), up to that of `Book` at the end.
 #![tactic(auto)]
 
-ghost use Rattle.std.specs.Prelude.{◌≡◌, true, not, ◌&&◌, [], ◌∷◌, ◌≤◌, ◌<◌, leb, length, get_or, take, IfSome, MatchOption};
+ghost use Rattle.std.specs.Prelude.{◌≡◌, true, not, ◌&&◌, [], ◌≤◌, ◌<◌, leb, length, get_or, take, IfSome};
+ghost use Rattle.std.specs.Iterator.{YieldsFirstRef, item_count};
 ghost use Rattle.tokens.specs.Reserved.{among};
 ghost use Rattle.book_index.specs.Layout.{hint_count, with_mark};
-ghost use Rattle.book.specs.Book.{longest_atom, lines, fit, node_atoms, group_atoms_of, place_of, found_among, number_in};
+ghost use Rattle.book.specs.Book.{longest_atom, lines, fit, node_atoms, found_among, number_in};
 ghost use Rattle.book.specs.Index.{indexed_lines, atom_mark, Holds, Places, Noted, Indexed};
+ghost use Rattle.book.specs.Left.{lines_left};
+ghost use Rattle.book.specs.Passing.{atom_end, group_count};
 ghost use Rattle.book.specs.Reading.{Reading};
 
 pub use book_index::INDEX_SIZE;
@@ -32,56 +36,72 @@ pub struct Book<'a> {
     ghost indexed: { Indexed nodes text.now index.now },
 }
 
-// The first line of a text, and what stands behind its newline; none where the text has no newline.
-fn first_line(text: &[u8]) -> Option<(&[u8], &[u8])>
-    ensures lines { MatchOption result (lines text.now ≡ []) (λ r. lines text.now ≡ r.0.now ∷ lines r.1.now) }
-    ensures less { IfSome result (λ r. length r.1.now < length text.now) }
-{
-    let end = text::find(text, b'\n');
-    if text.len() <= end {
-        return None;
+// The lines of a text, one by one: what is left of the text. What no newline ends is no line.
+#[derive(Clone, Copy)]
+struct Lines<'a> {
+    rest: &'a [u8],
+}
+
+impl<'a> Iterator for Lines<'a> {
+    type Item = &'a [u8];
+
+    ghost next_gives = { YieldsFirstRef lines_left };
+
+    ghost remaining = { item_count lines_left };
+
+    #[tactic(auto, using(crate::specs::LineLaws::next_line))]
+    fn next(&mut self) -> Option<&'a [u8]> {
+        let end = text::find(self.rest, b'\n')?;
+        let line = &self.rest[..end];
+        self.rest = &self.rest[end + 1..];
+        Some(line)
     }
-    Some((&text[..end], &text[end + 1..]))
 }
 
 // Line i of a book, from 0; empty where there are fewer.
 pub fn line(book: &[u8], i: usize) -> &[u8]
     ensures { result.now ≡ get_or (lines book.now) i [] }
 {
-    let mut rest = book;
-    for _ in 0..i {
-        let Some((_, behind)) = first_line(rest) else {
-            return &[];
-        };
-        rest = behind;
-    }
-    match first_line(rest) {
-        Some((line, _)) => line,
-        None => &[],
-    }
+    Lines { rest: book }.nth(i).unwrap_or(&[])
 }
 
-// The place, from 0, of the first line that is an atom, or the number of lines where none is.
-pub fn seek(book: &[u8], atom: &[u8]) -> usize
-    ensures { result ≡ place_of atom.now (lines book.now) }
+// The place, from 0, of the first line that is an atom; none where none is.
+pub fn seek(book: &[u8], atom: &[u8]) -> Option<usize>
+    ensures { result ≡ found_among atom.now (lines book.now) }
 {
-    let mut rest = book;
-    let mut i = 0;
-    while let Some((line, behind)) = first_line(rest) {
-        if atoms::same(atom, line) {
-            return i;
-        }
-        rest = behind;
-        i += 1;
-    }
-    i
+    Lines { rest: book }.position(|line| atoms::same(atom, line))
 }
 
 // Whether a line of so many bytes is an atom.
-pub fn is_atom(size: usize) -> bool
+fn is_atom(size: usize) -> bool
     ensures { result ≡ leb 1 size && leb size longest_atom }
 {
     (1..=LONGEST_ATOM).contains(&size)
+}
+
+// Where the line at a place ends; none where no newline ends it, or it is no atom.
+#[tactic(auto, unfolding(crate::specs::Passing::atom_end))]
+pub fn atom_end(book: &[u8], at: usize) -> Option<usize>
+    requires { at ≤ length book.now }
+    ensures { result ≡ atom_end book.now at }
+{
+    let size = text::find(&book[at..], b'\n')?;
+    if !is_atom(size) {
+        return None;
+    }
+    Some(at + size)
+}
+
+// How many of so many lines are group atoms in a book for n nodes; none where they are too few or too many for a book.
+#[tactic(auto, unfolding(crate::specs::Passing::group_count))]
+pub fn group_count(count: usize, n: u32) -> Option<usize>
+    ensures { result ≡ group_count count n }
+{
+    let groups = count.checked_sub(n as usize)?;
+    if GROUP_ATOMS < groups {
+        return None;
+    }
+    Some(groups)
 }
 
 // Line j of a book, by the places that the index has.
@@ -122,10 +142,11 @@ fn is_new(book: &[u8], at: usize, count: usize, atom: &[u8], index: &mut Index) 
     if count <= INDEXED_LINES {
         return !among_first(book, index, count, atom);
     }
-    count <= seek(&book[..at], &atom[0..])
+    seek(&book[..at], &atom[0..]).is_none()
 }
 
 // Whether a text is a book for n nodes. Where it is, the numbers of the index are those of the book.
+#[tactic(auto, using(crate::specs::Passing::line_found))]
 fn read(book: &[u8], n: u32, index: &mut Index) -> bool
     ensures { (result ≡ fit n book.now) × (result ≡ true → Noted n book.now index.new) }
 {
@@ -134,30 +155,21 @@ fn read(book: &[u8], n: u32, index: &mut Index) -> bool
     let mut i = 0;
     let mut at = 0;
     while at < book.len() {
-        let e = at + text::find(&book[at..], b'\n');
-        if book.len() <= e {
+        let Some(end) = atom_end(book, at) else {
             return false;
-        }
-        if !is_atom(e - at) {
-            return false;
-        }
-        if !is_new(book, at, i, &book[at..e], index) {
+        };
+        if !is_new(book, at, i, &book[at..end], index) {
             return false;
         }
         i += 1;
-        at = e + 1;
+        at = end + 1;
         if i <= INDEXED_LINES {
             book_index::put_number(index, i, at as u16);
         }
     }
-    let nodes = n as usize;
-    if i < nodes {
+    let Some(groups) = group_count(i, n) else {
         return false;
-    }
-    let groups = i - nodes;
-    if GROUP_ATOMS < groups {
-        return false;
-    }
+    };
     book_index::put_number(index, GROUP_NUMBER, groups as u16);
     true
 }
@@ -215,29 +227,23 @@ impl Book<'_> {
         None
     }
 
-    // The place of an atom among all lines, or their number where it is none of them. The rare search has parts that are the
-    // whole runs: handed on as they came, both would lie in memory for its sake, and cost more than the rest.
-    fn place(&self, atom: &[u8]) -> usize
-        ensures { result ≡ place_of atom.now (lines self.now.text.now) }
+    // The place of an atom among all lines; none where it is none of them. The rare search has parts that are the whole runs: handed
+    // on as they came, both would lie in memory for its sake, and cost more than the rest.
+    fn place(&self, atom: &[u8]) -> Option<usize>
+        ensures { result ≡ found_among atom.now (lines self.now.text.now) }
     {
-        match self.hinted(atom) {
-            Some(j) => j,
-            None => seek(&self.text[0..], &atom[0..]),
+        if let Some(j) = self.hinted(atom) {
+            return Some(j);
         }
-    }
-
-    // How many group atoms the book has.
-    fn group_count(&self) -> usize
-        ensures { result ≡ length (group_atoms_of self.now.nodes self.now.text.now) }
-    {
-        book_index::number(self.index, GROUP_NUMBER)
+        seek(&self.text[0..], &atom[0..])
     }
 
     // The place of an atom among the node atoms; none where it is none of them.
+    #[tactic(auto, using(crate::specs::Finding::node_placed))]
     pub fn node_of(&self, atom: &[u8]) -> Option<u32>
         ensures { result ≡ found_among atom.now (node_atoms self.now.nodes self.now.text.now) }
     {
-        let at = self.place(atom);
+        let at = self.place(atom)?;
         if self.nodes as usize <= at {
             return None;
         }
@@ -245,18 +251,11 @@ impl Book<'_> {
     }
 
     // The number of an atom among the group atoms, from 1; none where it is none of them.
+    #[tactic(auto, using(crate::specs::Finding::group_placed))]
     pub fn group_of(&self, atom: &[u8]) -> Option<u16>
         ensures { result ≡ number_in self.now.nodes self.now.text.now atom.now }
     {
-        let nodes = self.nodes as usize;
-        let at = self.place(atom);
-        if at < nodes {
-            return None;
-        }
-        let i = at - nodes;
-        if self.group_count() <= i {
-            return None;
-        }
+        let i = self.place(atom)?.checked_sub(self.nodes as usize)?;
         Some(i as u16 + 1)
     }
 }

@@ -12,7 +12,7 @@ pub const HINTS: usize = 256;
 
 pub const MARKS: u64 = 2048;
 
-// An index.
+// An index. Its functions take it and a place: methods would need a struct about the run, and each contract that now says `index.now` would say `index.now.bytes`.
 pub type Index = [u8; INDEX_SIZE];
 
 // Number j of an index.

@@ -1,5 +1,5 @@
 -- The next group of a list of groups, and the walk along the groups step by step; nodes that are tested one by one. Assumes nothing.
-use Rattle.std.specs.Prelude.{◌≡◌, refl, Option, Some, None, Result, Ok, Err, Bool, true, ◌&&◌, ◌||◌, List, [], ◌∷◌, ℕ, suc, ◌+◌, ◌-◌, ◌<◌, ◌≤◌, length, take}
+use Rattle.std.specs.Prelude.{◌≡◌, refl, Option, Some, None, Result, Ok, Err, Bool, true, ◌&&◌, ◌||◌, List, [], ◌∷◌, ℕ, ◌<◌, ◌≤◌, length}
 use Rattle.std.specs.List.{list_any, list_all}
 use Rattle.std.proofs.Common.{ap}
 use native.Mathlib.Omega.{arith}
@@ -75,10 +75,6 @@ name-ends t at begun g e = (group-next t at begun g e).2.1
 
 -- a step along the groups
 pub ruleset next_groups = (group-next, group-none, name-starts, name-ends)
-
--- so many of the groups that are left begin with the next one
-pub take_left : {A : Type 0} (n i : ℕ) (x : A) (xs : List A) → i < n → take (n - i) (x ∷ xs) ≡ x ∷ take (n - (i + 1)) xs
-take_left n i x xs l = let e : n - i ≡ suc (n - (i + 1)) = omega arith in rw e
 
 -- ---- nodes, by tests of each
 

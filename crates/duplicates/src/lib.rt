@@ -1,13 +1,16 @@
-// Groups of one name in a launch file. The groups are not stored: g is the place behind the bracket of their list, and each function walks the text from there.
+// Groups of one name in a launch file. The groups are not stored: g is the place behind the bracket of their list, and each function walks the text from there. The
+// text and its places come side by side, as in `walk`: the callers hold a text and have another place at each call, so that a struct of both would be made for every call.
 #![tactic(auto)]
 
-ghost use Rattle.std.specs.Prelude.{◌≡◌, not, ◌||◌, take};
+ghost use Rattle.std.specs.Prelude.{◌≡◌, false, not, ◌||◌, take};
+ghost use Rattle.std.specs.Iterator.{YieldsFirst, item_count};
 ghost use Rattle.tokens.specs.Reserved.{same, among};
 ghost use Rattle.walk.specs.Walk.{part};
 ghost use Rattle.walk.specs.Groups.{nodes, groups};
 ghost use Rattle.walk.specs.Unfold.{IsInside};
 ghost use Rattle.duplicates.specs.Duplicates.{covered, equal_nodes, agreed, named, made, torn, clash};
 ghost use Rattle.duplicates.specs.Next.{next_group};
+ghost use Rattle.duplicates.specs.Along.{places, places_left};
 
 use walk::{Entry, nodes_from};
 
@@ -18,6 +21,14 @@ pub struct Group {
     pub to: usize,
     pub nodes: usize,
     pub past: usize,
+}
+
+// The groups of the list, one by one: where the next one would begin, and whether one stands in front of it.
+#[derive(Clone, Copy)]
+struct Groups<'a> {
+    text: &'a [u8],
+    at: usize,
+    begun: bool,
 }
 
 // The group at a place of the list, behind its bracket or, once it has begun, behind a group; or no group is left.
@@ -37,6 +48,33 @@ pub fn next_group(text: &[u8], at: usize, begun: bool) -> Option<Group>
             })
         }
         Entry::Closed(_) => None,
+    }
+}
+
+// The groups of the list at a place.
+fn groups_at(text: &[u8], g: usize) -> Groups<'_>
+    ensures { places_left result ≡ places text.now g false }
+{
+    Groups {
+        text,
+        at: g,
+        begun: false,
+    }
+}
+
+impl Iterator for Groups<'_> {
+    type Item = Group;
+
+    ghost next_gives = { YieldsFirst places_left };
+
+    ghost remaining = { item_count places_left };
+
+    #[tactic(auto, using(crate::specs::Along::next_place))]
+    fn next(&mut self) -> Option<Group> {
+        let group = next_group(self.text, self.at, self.begun)?;
+        self.at = group.past;
+        self.begun = true;
+        Some(group)
     }
 }
 
@@ -72,22 +110,11 @@ fn agrees(text: &[u8], group: Group, name: &[u8], at: usize) -> bool
         || equal_nodes(text, group.nodes, at)
 }
 
-// Whether every group of a name has the nodes at a place. The groups are walked by their places: the items of an iterator would not say that two of them are in one
-// text, where a group knows its own nodes by their place.
-#[tactic(auto, using(crate::specs::Next::next_groups))]
+// Whether every group of a name has the nodes at a place.
 fn agreed(text: &[u8], g: usize, name: &[u8], at: usize) -> bool
     ensures { result ≡ agreed (groups text.now g) name.now (nodes text.now at) }
 {
-    let mut j = g;
-    let mut begun = false;
-    while let Some(group) = next_group(text, j, begun) {
-        if !agrees(text, group, name, at) {
-            return false;
-        }
-        j = group.past;
-        begun = true;
-    }
-    true
+    groups_at(text, g).all(|group| agrees(text, group, name, at))
 }
 
 // Whether a node is among those at a place, and not every group of a name has these.
@@ -98,23 +125,12 @@ pub fn torn(text: &[u8], g: usize, name: &[u8], at: usize, node: &[u8]) -> bool
 }
 
 // Whether one of the first so many groups has a name.
-#[tactic(auto, using(crate::specs::Next::next_groups, crate::specs::Next::take_left))]
 fn named_among(text: &[u8], g: usize, count: usize, name: &[u8]) -> bool
     ensures { result ≡ named (take count (groups text.now g)) name.now }
 {
-    let mut j = g;
-    let mut begun = false;
-    for _ in 0..count {
-        let Some(group) = next_group(text, j, begun) else {
-            return false;
-        };
-        if atoms::same(&text[group.from..group.to], name) {
-            return true;
-        }
-        j = group.past;
-        begun = true;
-    }
-    false
+    groups_at(text, g)
+        .take(count)
+        .any(|group| atoms::same(&text[group.from..group.to], name))
 }
 
 // Whether a group with a name and the nodes at a place, behind the first so many, is made.
@@ -125,18 +141,8 @@ pub fn made(text: &[u8], g: usize, count: usize, name: &[u8], at: usize) -> bool
 }
 
 // Whether a node is in a group whose namesakes do not agree.
-#[tactic(auto, using(crate::specs::Next::next_groups))]
 pub fn clashes(text: &[u8], g: usize, node: &[u8]) -> bool
     ensures { result ≡ clash (groups text.now g) node.now }
 {
-    let mut j = g;
-    let mut begun = false;
-    while let Some(group) = next_group(text, j, begun) {
-        if torn(text, g, &text[group.from..group.to], group.nodes, node) {
-            return true;
-        }
-        j = group.past;
-        begun = true;
-    }
-    false
+    groups_at(text, g).any(|group| torn(text, g, &text[group.from..group.to], group.nodes, node))
 }

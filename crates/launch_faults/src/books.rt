@@ -37,9 +37,9 @@ fn lines_of(book: &[u8]) -> Result<usize, Fault> {
 // The first line with the atom of one in front of it, and that one, if there is such a line. Each line is fine by itself.
 fn again_in(book: &[u8]) -> Result<(), Fault> {
     for (i, atom) in book.split(|b| *b == b'\n').enumerate() {
-        let first = book::seek(book, atom);
-        if first < i {
-            return Err(Fault::Again(i + 1, first + 1));
+        match book::seek(book, atom) {
+            Some(first) if first < i => return Err(Fault::Again(i + 1, first + 1)),
+            _ => (),
         }
     }
     Ok(())

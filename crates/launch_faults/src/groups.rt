@@ -31,13 +31,12 @@ pub fn torn_group(text: &[u8], g: usize, node: &[u8]) -> Option<Group> {
 
 // Whether an atom is among those of the n nodes.
 fn is_node(book: &[u8], n: u32, atom: &[u8]) -> bool {
-    book::seek(book, atom) < n as usize
+    book::seek(book, atom).is_some_and(|i| i < n as usize)
 }
 
 // Whether an atom is among those of the groups, which stand behind those of the n nodes.
 fn is_group(book: &[u8], n: u32, atom: &[u8]) -> bool {
-    let i = book::seek(book, atom);
-    n as usize <= i && !book::line(book, i).is_empty()
+    book::seek(book, atom).is_some_and(|i| n as usize <= i)
 }
 
 // The first of the nodes at a place that is not in the book.

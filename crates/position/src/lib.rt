@@ -1,4 +1,4 @@
-// Where a place of a text stands, for messages: its line and its column.
+// Where a place of a text stands, for messages: its line and its column. The struct that holds a text and a place is `reader::Reader`, whose methods call these.
 #![tactic(auto)]
 
 ghost use Rattle.std.specs.Prelude.{◌≡◌};

@@ -116,12 +116,3 @@ pub fn put_bytes(out: &mut [u8], at: usize, s: &[u8]) -> usize
     printer.put_bytes(s);
     printer.at
 }
-
-// Puts the line of an answer at a place of a run, and answers the next place; `words` are those of its list.
-pub fn put_answer(out: &mut [u8], at: usize, words: &[u64], answer: Answer) -> usize
-    ensures { sheet out.new result ≡ put (sheet out.old at) (answer_line words.now answer) }
-{
-    let mut printer = Printer { bytes: out, at };
-    printer.put_answer(words, answer);
-    printer.at
-}

@@ -1,8 +1,9 @@
 -- Laws of lines: the first line from a place on, and those behind it. Assumes nothing.
-use Rattle.std.specs.Prelude.{◌≡◌, refl, Bool, true, false, cond, List, [], ◌∷◌, ℕ, suc, ◌≤◌, ◌<◌, ◌+◌, ltb, eqb, leb, length, take, drop, Option, None}
+use Rattle.std.specs.Prelude.{◌≡◌, refl, Bool, true, false, cond, List, [], ◌∷◌, ℕ, suc, ◌≤◌, ◌<◌, ◌+◌, ltb, eqb, leb, length, take, drop, Option, Some, None}
 use Rattle.std.proofs.Common.{arith, lt-ltb, le-ltb, le-leb, ltb-true, ltb-false, length-take, length-drop, drop_of_length-le, drop-drop}
 use Rattle.std.proofs.Math.Seq.{drop-length}
-use Rattle.text.specs.Text.{newline, find_in}
+use Rattle.text.specs.Text.{newline, find_in, found_in}
+use Rattle.text.specs.FieldLaws.{found_some, found_none}
 use Rattle.line.specs.Requests.{request_of}
 use Rattle.line.specs.declared.Request.{Request}
 use Rattle.turns.specs.Turns.{request_turn}
@@ -70,14 +71,17 @@ size_first s h = go (ltb (find_in newline s) (length s)) refl
         omega (arith, length-take (find_in newline s) s)
     go false e = omega arith
 
--- which it is, by where the newline is found
-pub first_ended : (s : List ℕ) (e : ℕ) → e ≡ find_in newline s → e < length s → first_line s ≡ ended (take e s)
+-- which it is, by whether a newline is found
+pub first_ended : (s : List ℕ) (e : ℕ) → Some e ≡ found_in newline s → (first_line s ≡ ended (take e s)) × (e < length s)
 unfolding first_line
-first_ended s e q l = rw (← q, lt-ltb _ _ l)
+first_ended s e q =
+    let f = found_some newline e s q in
+    let l : find_in newline s < length s = omega (arith, f) in
+    (rw (lt-ltb (find_in newline s) (length s) l) (rw f.0), f.1)
 
-pub first-cut : (s : List ℕ) (e : ℕ) → e ≡ find_in newline s → length s ≤ e → first_line s ≡ cut s
+pub first-cut : (s : List ℕ) → None ≡ found_in newline s → first_line s ≡ cut s
 unfolding first_line
-first-cut s e q l = rw (← q, le-ltb _ _ l)
+first-cut s q = rw (le-ltb (find_in newline s) (length s) (found_none newline s q))
 
 -- ---- the line at a place of a script
 

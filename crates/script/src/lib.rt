@@ -8,6 +8,7 @@ ghost use Rattle.script.specs.FirstLines.{first_line, asks};
 ghost use Rattle.script.specs.BadLines.{first_bad};
 
 use line::Request;
+use print::Printer;
 
 // The run for a list has so many words.
 const LIST_ROOM: usize = 64;
@@ -36,17 +37,15 @@ struct Head {
 fn first(s: &[u8]) -> Head
     ensures { (result.size ≡ size_of (first_line s.now)) × (result.request ≡ asks (first_line s.now)) }
 {
-    let e = text::find(s, b'\n');
-    if e < s.len() {
-        let request = line::request_of(&s[..e]);
+    let Some(end) = text::find(s, b'\n') else {
         return Head {
-            size: e + 1,
-            request,
+            size: s.len(),
+            request: None,
         };
-    }
+    };
     Head {
-        size: s.len(),
-        request: None,
+        size: end + 1,
+        request: line::request_of(&s[..end]),
     }
 }
 
@@ -77,18 +76,24 @@ pub fn run(script: &[u8], from: usize, table: &mut [u64], out: &mut [u8]) -> Ran
         return refuse(script, from, out);
     }
     let mut words = [0u64; LIST_ROOM];
+    let mut printer = Printer { bytes: out, at: 0 };
     let mut at = from;
-    let mut len = 0;
     // A place that goes on by a line, and is returned: an iterator over lines says where it stands no more plainly.
     while at < script.len() {
-        if out.len() - len < LINE_ROOM {
-            return Ran { next: at, len };
+        if printer.bytes.len() - printer.at < LINE_ROOM {
+            return Ran {
+                next: at,
+                len: printer.at,
+            };
         }
         let head = first(&script[at..]);
-        len = turns::request_turn(table, &mut words, out, len, head.request);
+        turns::request_turn(table, &mut words, &mut printer, head.request);
         at += head.size;
     }
-    Ran { next: at, len }
+    Ran {
+        next: at,
+        len: printer.at,
+    }
 }
 
 // The number of the first line of a script that is bad, from 1.
@@ -97,7 +102,8 @@ pub fn bad_line(script: &[u8]) -> Option<usize>
 {
     let mut from = 0;
     let mut number = 1;
-    // The same walk by `first` as in `run`, so that both mean the same lines.
+    // The same walk by `first` as in `run`, so that both mean the same lines. An iterator over heads would serve this loop alone, and be longer than it is: `run` needs
+    // the place that it stands at.
     while from < script.len() {
         let head = first(&script[from..]);
         if head.request.is_none() {

@@ -1,10 +1,10 @@
 -- Laws of `find_in` and `fields`: the first field, and those behind it. Assumes nothing.
-use Rattle.std.specs.Prelude.{◌≡◌, refl, Bool, true, false, cond, List, [], ◌∷◌, ℕ, suc, ◌≤◌, ◌<◌, eqb, length, take, drop}
+use Rattle.std.specs.Prelude.{◌≡◌, refl, Bool, true, false, cond, List, [], ◌∷◌, ℕ, suc, ◌≤◌, ◌<◌, eqb, ltb, length, take, drop, Some, None}
 use Rattle.std.specs.List.{slice_split, onto_first, position_or_len}
 use Rattle.std.proofs.lemmas.List.Recursion.{is_position_or_len}
-use Rattle.std.proofs.Common.{le_refl, arith}
+use Rattle.std.proofs.Common.{le_refl, arith, ltb-true, ltb-false}
 use Rattle.std.proofs.Math.Numerals.{one-add}
-use Rattle.text.specs.Text.{space, find_in, in_front, fields}
+use Rattle.text.specs.Text.{space, find_in, found_in, in_front, fields}
 
 -- a byte is found within the list
 pub find-within : (b : ℕ) (s : List ℕ) → find_in b s ≤ length s
@@ -15,6 +15,24 @@ find-within b (x ∷ xs) = go (eqb x b) (find-within b xs)
     go : (t : Bool) → find_in b xs ≤ length xs → cond t 0 (suc (find_in b xs)) ≤ suc (length xs)
     go true h = omega arith
     go false h = omega arith
+
+-- where one is found, it is the first, and within the list
+pub found_some : (b i : ℕ) (s : List ℕ) → Some i ≡ found_in b s → (i ≡ find_in b s) × (i < length s)
+unfolding found_in
+found_some b i s h = go (ltb (find_in b s) (length s)) refl h
+  where
+    go : (t : Bool) → ltb (find_in b s) (length s) ≡ t → Some i ≡ cond t (Some (find_in b s)) None → (i ≡ find_in b s) × (i < length s)
+    go true e f = let g : i ≡ find_in b s = cc in let l = ltb-true _ _ e in (omega arith, omega arith)
+    go false e f = absurd (cc)
+
+-- where none is, the list is passed
+pub found_none : (b : ℕ) (s : List ℕ) → None ≡ found_in b s → length s ≤ find_in b s
+unfolding found_in
+found_none b s h = go (ltb (find_in b s) (length s)) refl h
+  where
+    go : (t : Bool) → ltb (find_in b s) (length s) ≡ t → None ≡ cond t (Some (find_in b s)) None → length s ≤ find_in b s
+    go true e f = absurd (cc)
+    go false e f = ltb-false _ _ e
 
 -- a space ends the first field
 pub fields-first : (t : List ℕ) → find_in space t < length t → fields t ≡ take (find_in space t) t ∷ fields (drop (suc (find_in space t)) t)

@@ -1,5 +1,5 @@
 -- Texts as bytes, and the parts of a line between its spaces. Assumes nothing.
-use Rattle.std.specs.Prelude.{cond, List, [], ◌∷◌, get_or, ℕ, suc, eqb}
+use Rattle.std.specs.Prelude.{cond, List, [], ◌∷◌, length, get_or, ℕ, suc, eqb, ltb, Option, Some, None}
 use Prim.Native.Char.{code}
 use Prim.Native.String.{String}
 use Prim.Native.String as Text
@@ -21,6 +21,10 @@ newline = 10
 unfoldable pub find_in : ℕ → List ℕ → ℕ
 find_in b [] = 0
 find_in b (x ∷ xs) = cond (eqb x b) 0 (suc (find_in b xs))
+
+-- the place of the first b; none where there is none
+unfoldable pub found_in : ℕ → List ℕ → Option ℕ
+found_in b s = cond (ltb (find_in b s) (length s)) (Some (find_in b s)) None
 
 -- one byte more in front of the first part
 abbrev pub in_front : ℕ → List (List ℕ) → List (List ℕ)

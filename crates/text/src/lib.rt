@@ -3,7 +3,7 @@
 
 ghost use Rattle.std.specs.Prelude.{◌≡◌, length};
 ghost use Rattle.text.specs.Numbers.{plain, numeral, narrow};
-ghost use Rattle.text.specs.Text.{field, fields, find_in};
+ghost use Rattle.text.specs.Text.{field, fields, found_in};
 
 // Whether s is one byte, or more with no 0 in front.
 pub fn plain(s: &[u8]) -> bool
@@ -55,9 +55,9 @@ pub fn field(s: &[u8], k: usize) -> &[u8]
     s.split(|b| *b == b' ').nth(k).unwrap_or(&[])
 }
 
-// The place of the first b in s, or the length of s where there is none.
-pub fn find(s: &[u8], b: u8) -> usize
-    ensures { result ≡ find_in b s.now }
+// The place of the first b in s; none where there is none.
+pub fn find(s: &[u8], b: u8) -> Option<usize>
+    ensures { result ≡ found_in b s.now }
 {
-    s.iter().position(|x| *x == b).unwrap_or(s.len())
+    s.iter().position(|x| *x == b)
 }

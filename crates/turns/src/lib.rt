@@ -2,13 +2,14 @@
 #![tactic(auto)]
 
 ghost use Rattle.std.specs.Prelude.{◌≡◌, length, Some};
-ghost use Rattle.print.specs.Sheets.{sheet, put};
+ghost use Rattle.print.specs.Puts.{Puts};
 ghost use Rattle.turns.specs.Turns.{list_room, request_turn};
 ghost use Rattle.step.specs.Lists.{count_of};
 
 use answers::Value;
 use commands::Command;
 use line::Request;
+use print::Printer;
 
 // How many words a list has, by its answer's value.
 pub fn count_of(value: Value) -> usize
@@ -24,28 +25,27 @@ pub fn count_of(value: Value) -> usize
 fn called(
     table: &mut [u64],
     words: &mut [u64],
-    out: &mut [u8],
-    at: usize,
+    printer: &mut Printer,
     caller: u32,
     command: Command,
-) -> usize
+)
     requires { length words.old ≡ list_room }
-    ensures { (sheet out.new result ≡ put (sheet out.old at) (request_turn table.old (Some (Request.Command caller command))).text)
-        × (table.new ≡ (request_turn table.old (Some (Request.Command caller command))).table) }
+    ensures puts { Puts printer.old printer.new (request_turn table.old (Some (Request.Command caller command))).text }
+    ensures left { table.new ≡ (request_turn table.old (Some (Request.Command caller command))).table }
 {
     let answer = sgroup::call(table, words, caller, command);
     let value = answer.value;
     let count = count_of(value);
-    print::put_answer(out, at, &words[..count], answer)
+    printer.put_answer(&words[..count], answer);
 }
 
-// Opens and prints the answer.
-fn opened(table: &mut [u64], words: &[u64], out: &mut [u8], at: usize, n: u32, hidden: u64) -> usize
-    ensures { (sheet out.new result ≡ put (sheet out.old at) (request_turn table.old (Some (Request.Open n hidden))).text)
-        × (table.new ≡ (request_turn table.old (Some (Request.Open n hidden))).table) }
+// Opens and prints the answer, which has no list.
+fn opened(table: &mut [u64], printer: &mut Printer, n: u32, hidden: u64)
+    ensures puts { Puts printer.old printer.new (request_turn table.old (Some (Request.Open n hidden))).text }
+    ensures left { table.new ≡ (request_turn table.old (Some (Request.Open n hidden))).table }
 {
     let answer = opening::open(table, n, hidden);
-    print::put_answer(out, at, &words[..0], answer)
+    printer.put_answer(&[], answer);
 }
 
 // What a request does and prints; where a line is none, that it is bad.
@@ -53,19 +53,18 @@ fn opened(table: &mut [u64], words: &[u64], out: &mut [u8], at: usize, n: u32, h
 pub fn request_turn(
     table: &mut [u64],
     words: &mut [u64],
-    out: &mut [u8],
-    at: usize,
+    printer: &mut Printer,
     request: Option<Request>,
-) -> usize
+)
     requires { length words.old ≡ list_room }
-    ensures { (sheet out.new result ≡ put (sheet out.old at) (request_turn table.old request).text)
-        × (table.new ≡ (request_turn table.old request).table) }
+    ensures puts { Puts printer.old printer.new (request_turn table.old request).text }
+    ensures left { table.new ≡ (request_turn table.old request).table }
 {
     match request {
-        Some(Request::Open(n, hidden)) => opened(table, words, out, at, n, hidden),
+        Some(Request::Open(n, hidden)) => opened(table, printer, n, hidden),
         Some(Request::Command { caller, command }) => {
-            called(table, words, out, at, caller, command)
+            called(table, words, printer, caller, command)
         }
-        None => print::put_bytes(out, at, b"bad-line\n"),
+        None => printer.put_bytes(b"bad-line\n"),
     }
 }

@@ -1,21 +1,16 @@
 -- `book::is_new` meets its contract: an atom without its mark is new, and any other is looked for, by the places of the lines or by their newlines. Assumes nothing.
-use borrow.Author.Tests.{lt-ltb, le-ltb, lt-leb, le-leb}
-use borrow.Author.Rules.{part_to_end}
+use borrow.Author.Rules.{rules, part_to_end}
 use mathlib.Core.Path.{◌≡◌, refl, sym, ap, ◌∙◌}
-use mathlib.Core.Logic.{⊎_elim}
 use mathlib.Core.Bool.{Bool, true, false, not, true≢false}
 use mathlib.Core.List.{List}
-use Prim.Native.Nat.{ℕ, ◌≤◌, ◌<◌, ◌%◌}
-use lib.Dec.{leb, ltb}
+use Prim.Native.Nat.{ℕ, ◌%◌}
 use native.Mathlib.Omega.{arith}
-use lib.ListN.{length}
 use lib.Seq.{length-take-le}
-use Rattle.nodes.specs.Bools.{by_lt}
+use Rattle.std.specs.Option.{is_some}
 use Rattle.tokens.specs.Reserved.{among}
 use Rattle.book_index.specs.Layout.{mark_count, has_mark}
-use Rattle.book.specs.Book.{place_of}
 use Rattle.book.specs.Index.{atom_mark, Marked}
-use Rattle.book.specs.PlaceLaws.{place-among}
+use Rattle.book.specs.Finding.{some-found}
 use Rattle.book.specs.Passing.{first_lines}
 use Rattle.book.specs.Reading.{places_marked}
 use Rattle.book.proofs.is_new.Goals as goal
@@ -28,21 +23,6 @@ unmarked ls x a m h = go (among ls a) refl
     go true e = absurd (true≢false (sym (m a e) ∙ h))
     go false e = refl
 
--- it is none of them where its place is behind them
-searched : (ls : List (List ℕ)) (a : List ℕ) (n p : ℕ) → length ls ≡ n → p ≡ place_of a ls → leb n p ≡ not (among ls a)
-searched ls a n p l e =
-    ap (leb n) e ∙ ap (λ (m : ℕ). leb m (place_of a ls)) (sym l) ∙ turn (length ls) (place_of a ls) ∙ ap not (place-among a ls)
-  where
-    turn : (m k : ℕ) → leb m k ≡ not (ltb k m)
-    turn m k = ⊎_elim (λ (h : k < m). rw (lt-ltb k m h, lt-leb m k h)) (λ (h : m ≤ k). rw (le-ltb k m h, le-leb m k h)) (by_lt k m)
-
-pub returns-then-not-met : goal.returns-then-not-met
-returns-then-not-met c =
-    let e : c.mark_of.result % mark_count ≡ atom_mark c.args.atom.now = ap (λ (k : ℕ). k % mark_count) c.mark_of.ensures in (
-      unmarked _ c.args.index.now c.args.atom.now c.requires.marked (ap (has_mark c.args.index.now) (sym e) ∙ sym c.has_mark-met.ensures ∙ c.if-not-met.true),
-      c.set_mark.ensures ∙ rw e,
-    )
-
 pub among_first-requires : goal.among_first-requires
 among_first-requires c =
     let p = places_marked 0 _ _ _ _ c.requires _ _ (omega arith) c.set_mark.ensures c.if-count-le-INDEXED_LINES.true in
@@ -53,11 +33,8 @@ returns-then-count-le-INDEXED_LINES c =
     let e : c.mark_of.result % mark_count ≡ atom_mark c.args.atom.now = ap (λ (k : ℕ). k % mark_count) c.mark_of.ensures in
     (ap not (c.among_first.ensures ∙ ap (λ (ls : List (List ℕ)). among ls c.args.atom.now) (first_lines _ _ _ c.requires.passed).0), c.set_mark.ensures ∙ rw e)
 
-pub slice_bounds-seek-end : goal.slice_bounds-seek-end
-slice_bounds-seek-end c =
-    sym (length-take-le _ _ c.requires.passed.within)
-
 pub returns : goal.returns
 returns c =
     let e : c.mark_of.result % mark_count ≡ atom_mark c.args.atom.now = ap (λ (k : ℕ). k % mark_count) c.mark_of.ensures in
-    (searched _ c.args.atom.now _ _ c.requires.passed.number (c.seek.ensures ∙ rw (part_to_end c.args.atom.now 0)), c.set_mark.ensures ∙ rw e)
+    let b : c.is_none.result ≡ not (is_some c.seek.result) = search rules in
+    (b ∙ ap not (ap is_some c.seek.ensures ∙ some-found _ _) ∙ rw (part_to_end c.args.atom.now 0), c.set_mark.ensures ∙ rw e)

@@ -1,23 +1,19 @@
--- `book::seek` meets its contract: the place is as many lines on as were passed. Assumes nothing.
-use Rattle.std.proofs.Common.{◌≡◌, suc, arith}
-use Rattle.book.specs.Book.{lines, place_of}
+-- `book::seek` meets its contract: the first line that is the atom. Assumes nothing.
+use Rattle.std.proofs.Common.{rules, tests, arith, inl}
+use mathlib.Core.Path.{refl, ◌∙◌}
+use Rattle.std.proofs.lemmas.Iterator.Consumers.{YieldsList-from_first}
+use Rattle.std.proofs.lemmas.Iterator.Search.{position_from_yields_List}
+use Rattle.tokens.specs.Reserved.{same}
+use Rattle.book.specs.Book.{lines}
+use Rattle.book.specs.Left.{lines_left}
+use Rattle.book.specs.LineLaws.{lines-count}
+use Rattle.book.specs.PlaceLaws.{found_position}
 use Rattle.book.proofs.seek.Goals as goal
 
-pub returns-then-same : goal.returns-then-same
-unfolding place_of
-returns-then-same c =
-    let here : place_of c.args.atom.now (lines c.loop-line.rest.now) ≡ 0 = rw (c.in-Some.ensures.lines, ← c.same.ensures, c.if-same.true) in
-    omega arith
-
-pub loop-line-preserved : goal.loop-line-preserved
-unfolding place_of
-loop-line-preserved c =
-    let there : place_of c.args.atom.now (lines c.loop-line.rest.now) ≡ suc (place_of c.args.atom.now (lines c.in-Some.behind.now)) =
-    rw (c.in-Some.ensures.lines, ← c.same.ensures, c.if-same.false) in
-    (omega (arith, c.in-Some.ensures.less), omega arith)
+pub position-requires-clause-fits : goal.position-requires-clause-fits
+position-requires-clause-fits c = inl (omega (arith, lines-count c.args.book.now))
 
 pub returns : goal.returns
-unfolding place_of
 returns c =
-    let none : place_of c.args.atom.now (lines c.loop-line.rest.now) ≡ 0 = rw c.in_default.ensures.lines in
-    omega arith
+    position_from_yields_List (same c.args.atom.now) c.position.new.self _ c.position.result c.position.ensures.ran (YieldsList-from_first (λ x. x.now) lines_left (lines c.args.book.now) refl) (λ x b q h. search (rules, tests))
+    ∙ found_position c.args.atom.now (lines c.args.book.now)

@@ -16,9 +16,6 @@ returns-then-is_none c =
 pub overflow_add-from : goal.overflow_add-from
 overflow_add-from c = omega (arith, bad_size c.args.script.now c.loop-from.from _ _ c.loop-from-test.true c.first-head.ensures.0 c.first-head.ensures.1)
 
-pub overflow_add-number : goal.overflow_add-number
-overflow_add-number c = omega (arith, bad_size c.args.script.now c.loop-from.from _ _ c.loop-from-test.true c.first-head.ensures.0 c.first-head.ensures.1)
-
 pub loop-from-smaller : goal.loop-from-smaller
 loop-from-smaller c = omega (arith, bad_size c.args.script.now c.loop-from.from _ _ c.loop-from-test.true c.first-head.ensures.0 c.first-head.ensures.1)
 

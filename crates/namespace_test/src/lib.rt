@@ -1,5 +1,7 @@
 // Whether a namespace is sound. Pids are told apart by slots, which the caller lends: a slot holds the stamp of the namespace whose pid came by last, so that nothing
 // is cleared between two namespaces with different stamps. A slot that holds the stamp leads to an exact look back; whatever the slots hold, the answer is the same.
+// The count comes beside the run: `sound_words` of entries/NamespaceSound answers a count beyond the run as well. Slots and stamp stand side by side: in a struct that
+// is lent as `&mut` the stamp could change too, so that each of these functions would have to promise besides that it does not.
 #![tactic(auto)]
 
 ghost use Rattle.std.specs.Prelude.{◌≡◌, ◌&&◌, ◌≤◌, ◌%◌, eqb, length, get_or, set};
@@ -23,7 +25,7 @@ const SLOT_DIGIT: u64 = 4194304;
 // So many words are passed in a turn.
 const TURN: usize = 4;
 
-// Whether every word is zero. It looks at all of them: that takes less time than to stop early.
+// Whether every word is zero. It looks at all of them: `all`, which stops early, takes four times as long on 32 words of zero (tried).
 fn all_zero(words: &[u64]) -> bool
     ensures { result ≡ all_zero words.now }
 {
@@ -34,7 +36,8 @@ fn all_zero(words: &[u64]) -> bool
     any == 0
 }
 
-// Whether each pid of the first `count` words has its host among the first `size` nodes. With a full roster every pid has. It looks at all of them.
+// Whether each pid of the first `count` words has its host among the first `size` nodes. With a full roster every pid has. It looks at all
+// of them: `all`, which stops early, takes twice as long at 32 names (tried).
 fn hosted(ns: &[u64], count: usize, size: u32) -> bool
     requires { count ≤ length ns.now }
     ensures { result ≡ is_hosted size (entries count ns.now) }
@@ -88,7 +91,8 @@ fn is_plain(word: u64, last: u32, seen: &mut [u8; SLOT_COUNT], stamp: u8) -> boo
     !((name_of(word) <= last) | taken(pid_of(word), seen, stamp))
 }
 
-// Passes the words from `from` on, four in a turn, up to one that is not plainly right or to the last three, and stamps the slot of each.
+// Passes the words from `from` on, four in a turn, up to one that is not plainly right or to the last three, and stamps the slot of each. With a word a turn
+// plain Rust took a third longer (docs/DECISIONS.md); by index, since it goes on where `stamped` says, and says itself how far it came.
 fn pass(
     ns: &[u64],
     from: usize,

@@ -36,17 +36,16 @@ fn all_zero(words: &[u64]) -> bool
     any == 0
 }
 
-// Whether each pid of the first `count` words has its host among the first `size` nodes. With a full roster every pid has. It looks at all
+// Whether each pid of the words has its host among the first `size` nodes. With a full roster every pid has. It looks at all
 // of them: `all`, which stops early, takes twice as long at 32 names (tried).
-fn hosted(ns: &[u64], count: usize, size: u32) -> bool
-    requires { count ≤ length ns.now }
-    ensures { result ≡ is_hosted size (entries count ns.now) }
+fn hosted(words: &[u64], size: u32) -> bool
+    ensures { result ≡ is_hosted size (entries (length words.now) words.now) }
 {
     if NODE_LIMIT <= size {
         return true;
     }
     let mut right = true;
-    for word in &ns[..count] {
+    for word in words {
         right &= host_of(pid_of(*word)) < size;
     }
     right
@@ -97,16 +96,15 @@ fn pass(
     ns: &[u64],
     from: usize,
     before: u32,
-    count: usize,
     seen: &mut [u8; SLOT_COUNT],
     stamp: u8,
 ) -> usize
-    requires { (count ≤ length ns.now) × (Reached ns.now count stamp from before seen.old) }
-    ensures { (from ≤ result) × (Passed ns.now count stamp result seen.new) }
+    requires { Reached ns.now (length ns.now) stamp from before seen.old }
+    ensures { (from ≤ result) × (Passed ns.now (length ns.now) stamp result seen.new) }
 {
     let mut last = before;
     let mut i = from;
-    while TURN <= count - i {
+    while TURN <= ns.len() - i {
         let a = ns[i];
         let b = ns[i + 1];
         let c = ns[i + 2];
@@ -135,19 +133,18 @@ fn stands_before(ns: &[u64], i: usize, pid: u32, seen: &mut [u8; SLOT_COUNT], st
     ensures value { result ≡ holds_pid pid (entries i ns.now) }
     ensures seen_after { seen.new ≡ set seen.old (slot pid) stamp }
 {
-    taken(pid, seen, stamp) && has_pid(ns, i, pid)
+    taken(pid, seen, stamp) && has_pid(&ns[..i], pid)
 }
 
-// Whether the names of the first `count` words ascend from 1 and no pid stands twice. By index: a pass says how far it came.
-fn stamped(ns: &[u64], count: usize, seen: &mut [u8; SLOT_COUNT], stamp: u8) -> bool
-    requires { count ≤ length ns.now }
-    ensures { result ≡ is_ascending 0 (entries count ns.now) && is_distinct (entries count ns.now) }
+// Whether the names of the words ascend from 1 and no pid stands twice. By index: a pass says how far it came.
+fn stamped(ns: &[u64], seen: &mut [u8; SLOT_COUNT], stamp: u8) -> bool
+    ensures { result ≡ is_ascending 0 (entries (length ns.now) ns.now) && is_distinct (entries (length ns.now) ns.now) }
 {
     let mut last = 0;
     let mut i = 0;
-    while i < count {
-        i = pass(ns, i, last, count, seen, stamp);
-        if i < count {
+    while i < ns.len() {
+        i = pass(ns, i, last, seen, stamp);
+        if i < ns.len() {
             let name = name_of(ns[i]);
             if name <= name_before(ns, i) {
                 return false;
@@ -166,8 +163,8 @@ fn stamped(ns: &[u64], count: usize, seen: &mut [u8; SLOT_COUNT], stamp: u8) -> 
 pub fn is_sound(ns: &[u64], count: usize, size: u32, seen: &mut [u8; SLOT_COUNT], stamp: u8) -> bool
     ensures { result ≡ sound_words size count ns.now }
 {
-    if ns.len() < count || !all_zero(&ns[count..]) || !hosted(ns, count, size) {
+    if ns.len() < count || !all_zero(&ns[count..]) || !hosted(&ns[..count], size) {
         return false;
     }
-    stamped(ns, count, seen, stamp)
+    stamped(&ns[..count], seen, stamp)
 }

@@ -42,8 +42,8 @@ pub fn pid_held(g: GroupAt<'_>, p: u32) -> bool
     search::holds_pid(g.names(), g.count(), p).unwrap_or(false)
 }
 
-// One name more, which is not held. What writes takes the bare words and the place: of a struct that holds a `&mut` each contract would have to say besides
-// that the run is still the caller's, as those of `print::Printer` do: a clause more in each for the two facts here, also in `groups` and `naming`.
+// One name more, which is not held. What writes takes the words and the place with a fact each, here and in `groups` and `naming`: of a struct that holds a
+// `&mut` the contract would have to say besides that it still holds the caller's run, as those of `print::Printer` do.
 pub fn add_name(t: &mut [u64], at: usize, n: u32, p: u32)
     requires t_len { length t.old ≡ table_words names_per_group }
     requires at_lt_group_limit { at < group_limit }

@@ -1,7 +1,7 @@
-// Whether a namespace is sound. Pids are told apart by slots, which the caller lends: a slot holds the stamp of the namespace whose pid came by last, so that nothing
-// is cleared between two namespaces with different stamps. A slot that holds the stamp leads to an exact look back; whatever the slots hold, the answer is the same.
-// The count comes beside the run: `sound_words` of entries/NamespaceSound answers a count beyond the run as well. Slots and stamp stand side by side: in a struct that
-// is lent as `&mut` the stamp could change too, so that each of these functions would have to promise besides that it does not.
+// Whether a namespace is sound. Pids are told apart by slots, which the caller lends: a slot holds the stamp of the namespace whose pid came by last, so that
+// nothing is cleared between two namespaces with different stamps. A slot that holds the stamp leads to an exact look back; whatever the slots hold, the answer
+// is the same. The count comes beside the run: `sound_words` of entries/NamespaceSound answers a count beyond the run as well. Slots and stamp stand side by
+// side: in a struct that is lent as `&mut` the stamp could change too, so that each of these functions would have to promise besides that it does not.
 #![tactic(auto)]
 
 ghost use Rattle.std.specs.Prelude.{◌≡◌, ◌&&◌, ◌≤◌, ◌%◌, eqb, length, get_or, set};
@@ -82,7 +82,8 @@ fn name_before(ns: &[u64], i: usize) -> u32
     name_of(ns[i - 1])
 }
 
-// Stamps the slot of the word's pid, and says whether the word is plainly right after one of the name `last`: its name is higher, and its slot did not hold the stamp.
+// Stamps the slot of the word's pid, and says whether the word is plainly right after one of the name `last`: its name is higher, and its slot did not hold the
+// stamp.
 fn is_plain(word: u64, last: u32, seen: &mut [u8; SLOT_COUNT], stamp: u8) -> bool
     ensures value { result ≡ is_plain word last stamp seen.old }
     ensures seen_after { seen.new ≡ set seen.old (slot (word % half_word)) stamp }

@@ -93,13 +93,7 @@ fn is_plain(word: u64, last: u32, seen: &mut [u8; SLOT_COUNT], stamp: u8) -> boo
 
 // Passes the words from `from` on, four in a turn, up to one that is not plainly right or to the last three, and stamps the slot of each. With a word a turn
 // plain Rust took a third longer (docs/DECISIONS.md); by index, since it goes on where `stamped` says, and says itself how far it came.
-fn pass(
-    ns: &[u64],
-    from: usize,
-    before: u32,
-    seen: &mut [u8; SLOT_COUNT],
-    stamp: u8,
-) -> usize
+fn pass(ns: &[u64], from: usize, before: u32, seen: &mut [u8; SLOT_COUNT], stamp: u8) -> usize
     requires { Reached ns.now (length ns.now) stamp from before seen.old }
     ensures { (from ≤ result) × (Passed ns.now (length ns.now) stamp result seen.new) }
 {

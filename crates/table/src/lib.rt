@@ -59,7 +59,12 @@ fn rest_sound(t: Counted<'_>, n: u32, grouped: u64) -> bool
     let loose = nodes::diff(nodes::diff(nodes::roster(n), t.words[HIDDEN_AT]), grouped);
     let links = links_sound(&t.words[LINKS_AT..FREE_AT], n);
     let met = groups_test::members_met(t);
-    let free = free_sound(&t.words[LINKS_AT..FREE_AT], &t.words[FREE_AT..BODIES_AT], loose, n);
+    let free = free_sound(
+        &t.words[LINKS_AT..FREE_AT],
+        &t.words[FREE_AT..BODIES_AT],
+        loose,
+        n,
+    );
     let unused = unused_zero(t);
     let names = groups_test::names_sound(t, n);
     links & (met & (free & (unused & names)))
@@ -86,7 +91,14 @@ fn sound_for(t: &[u64], cap: usize) -> bool
     let size = t[SIZE_AT];
     let count = t[COUNT_AT];
     if head_sound(size, t[HIDDEN_AT], count, t[SPARE_AT]) {
-        return parts_sound(Counted { words: t, count: count as usize, cap }, size as u32);
+        return parts_sound(
+            Counted {
+                words: t,
+                count: count as usize,
+                cap,
+            },
+            size as u32,
+        );
     }
     false
 }

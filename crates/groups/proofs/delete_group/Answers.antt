@@ -5,10 +5,10 @@ use mathlib.Core.Path.{◌≡◌, refl, ap, ◌∙◌}
 use mathlib.Core.List.{[], ◌∷◌, map, map-append}
 use Prim.Native.Nat.{ℕ, ◌+◌, ◌-◌, ◌*◌}
 use lib.Dec.{lit<}
-use lib.ListN.{length, get_or, length-set, length-append, length-map}
+use lib.ListN.{length, get_or, length-append, length-map}
 use Rattle.entries.specs.Entries.{words}
 use Rattle.entries.specs.Storage.{length-words}
-use Rattle.semantics.specs.Sizes.{group_limit, names_per_group, contents_at, members_at, bodies_at}
+use Rattle.semantics.specs.Sizes.{group_limit, names_per_group, contents_at, members_at}
 use Rattle.semantics.specs.Table.{contents, bodies, sections}
 use Rattle.semantics.specs.Bodies.{length-bodies, bodies-append}
 use Rattle.semantics.specs.Sections.{store}

@@ -5,8 +5,8 @@ use mathlib.Core.Path.{◌≡◌, ap, ◌∙◌}
 use mathlib.Core.List.{map, map-append}
 use Prim.Native.Nat.{ℕ, ◌+◌, ◌*◌}
 use lib.Dec.{lit<}
-use lib.ListN.{length, get_or, length-set, length-append, length-map}
-use Rattle.semantics.specs.Sizes.{group_limit, names_per_group, contents_at, members_at, bodies_at}
+use lib.ListN.{length, get_or, length-append, length-map}
+use Rattle.semantics.specs.Sizes.{group_limit, names_per_group, contents_at, members_at}
 use Rattle.semantics.specs.Table.{contents, bodies, sections}
 use Rattle.semantics.specs.Bodies.{length-bodies, bodies-append}
 use Rattle.semantics.specs.Sections.{store}

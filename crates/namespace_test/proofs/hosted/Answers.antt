@@ -8,8 +8,6 @@ use Prim.Native.Nat.{ℕ, zero, suc, ◌+◌, ◌%◌, ◌≤◌, ◌<◌}
 use lib.ListN.{length, get_or}
 use lib.Dec.{ltb}
 use borrow.Author.Tests.{lt-ltb}
-use Rattle.std.proofs.Common.{length-take-le}
-use Rattle.std.proofs.lemmas.List.{get_or-take}
 use Rattle.nodes.specs.Sets.{node_limit}
 use Rattle.entries.specs.Entries.{half_word, host, entries}
 use Rattle.entries.specs.NamespaceSound.{is_hosted}

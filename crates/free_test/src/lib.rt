@@ -1,5 +1,5 @@
 // The tests of free normal groups and of members' connections, which stand in runs of one word a node. Each loop gathers what is wrong and looks at it once, at
-// the end: a sound table has to be passed whole, and a loop that stops early takes longer there (tried with `all_zero`: four times as long on 32 words).
+// the end: a sound table has to be passed whole, and a loop that stops early takes longer there (tried in plain Rust with `all_zero`: four times as long on 32 words).
 #![tactic(auto)]
 
 ghost use Rattle.std.specs.Prelude.{◌≡◌, ◌≤◌, ◌<◌, length};

@@ -25,7 +25,7 @@ const SLOT_DIGIT: u64 = 4194304;
 // So many words are passed in a turn.
 const TURN: usize = 4;
 
-// Whether every word is zero. It looks at all of them: `all`, which stops early, takes four times as long on 32 words of zero (tried).
+// Whether every word is zero. It looks at all of them: `all`, which stops early, takes four times as long on 32 words of zero (tried in plain Rust).
 fn all_zero(words: &[u64]) -> bool
     ensures { result ≡ all_zero words.now }
 {
@@ -37,7 +37,7 @@ fn all_zero(words: &[u64]) -> bool
 }
 
 // Whether each pid of the words has its host among the first `size` nodes. With a full roster every pid has. It looks at all
-// of them: `all`, which stops early, takes twice as long at 32 names (tried).
+// of them: `all`, which stops early, takes twice as long at 32 names (tried in plain Rust).
 fn hosted(words: &[u64], size: u32) -> bool
     ensures { result ≡ is_hosted size (entries (length words.now) words.now) }
 {

@@ -40,7 +40,7 @@ fn merge(t: &mut [u64], set: u64)
     rewiring::one_free_group(&mut t[FREE_AT..BODIES_AT], set);
 }
 
-// Two nodes are connected, and no free groups become one.
+// Two nodes are connected, and no free groups become one. The ends stand side by side with a fact each: a struct of a node and its fact would only wrap the number.
 fn link(t: &mut [u64], a: u32, b: u32)
     requires t_len { length t.old ≡ table_words names_per_group }
     requires a_lt_node_limit { a < node_limit }

@@ -9,7 +9,7 @@ ghost use Rattle.semantics.specs.WordsOfState.{Laid};
 ghost use Rattle.groups.specs.Grouped.{fresh, manned};
 
 use bodies::{drop_body, put_body};
-use layout::{BODIES_AT, CONTENTS_AT, COUNT_AT, MEMBERS_AT, NAMES_PER_GROUP};
+use layout::{CONTENTS_AT, COUNT_AT, MEMBERS_AT, own_words};
 
 // A new s_group of no names goes in at the place: the s_groups from there on move up.
 pub fn insert_group(t: &mut [u64], at: usize, s: u32, set: u64)
@@ -21,9 +21,7 @@ pub fn insert_group(t: &mut [u64], at: usize, s: u32, set: u64)
     let count = t[COUNT_AT] as usize;
     moves::put_first(&mut t[CONTENTS_AT + at..CONTENTS_AT + count + 1], s as u64);
     moves::put_first(&mut t[MEMBERS_AT + at..MEMBERS_AT + count + 1], set);
-    let start = BODIES_AT + NAMES_PER_GROUP * at;
-    let end = BODIES_AT + NAMES_PER_GROUP * (count + 1);
-    put_body(&mut t[start..end]);
+    put_body(&mut t[own_words(at).start..own_words(count).end]);
     t[COUNT_AT] = (count + 1) as u64;
 }
 
@@ -37,9 +35,7 @@ pub fn delete_group(t: &mut [u64], at: usize)
     let count = t[COUNT_AT] as usize;
     moves::drop_first(&mut t[CONTENTS_AT + at..CONTENTS_AT + count]);
     moves::drop_first(&mut t[MEMBERS_AT + at..MEMBERS_AT + count]);
-    let start = BODIES_AT + NAMES_PER_GROUP * at;
-    let end = BODIES_AT + NAMES_PER_GROUP * count;
-    drop_body(&mut t[start..end]);
+    drop_body(&mut t[own_words(at).start..own_words(count - 1).end]);
     t[COUNT_AT] = (count - 1) as u64;
 }
 

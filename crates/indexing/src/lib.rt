@@ -17,7 +17,7 @@ use commands::Command;
 use entries::HALF_WORD;
 use index_test::names_total;
 use indexes::Update;
-use sound_table::SoundTable;
+use sound_table::{GroupAt, SoundTable};
 
 // The key of a pid in an s_group.
 fn key_of(p: u32, s: u32) -> u64
@@ -33,7 +33,7 @@ fn find_in(t: SoundTable<'_>, s: u32, n: u32) -> Option<u32>
     let Ok(at) = place::place_of(t, s) else {
         return None;
     };
-    let (_, pid) = names::find_name(t.words, at, n).ok()?;
+    let (_, pid) = names::find_name(GroupAt { words: t.words, at }, n).ok()?;
     Some(pid)
 }
 

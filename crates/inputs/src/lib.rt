@@ -1,4 +1,6 @@
-// What speaks against a command before an s_group is looked at: reasons 4 to 7, and 14 to 16 of new_s_group, as errors.
+// What speaks against a command before an s_group is looked at: reasons 4 to 7, and 14 to 16 of new_s_group, as errors. A command's arguments stand side by
+// side, here and in its step, as the functions for C take them: `Command` holds them together up to `step`, and each command has others. `size` is the table's,
+// not the command's.
 #![tactic(auto)]
 
 ghost use Rattle.std.specs.Prelude.{◌≡◌};

@@ -1,6 +1,10 @@
 // Where the parts of a table stand.
 #![tactic(auto)]
 
+ghost use Rattle.std.specs.Prelude.{◌≡◌, ◌+◌, ◌*◌, ◌/◌, ◌%◌, ◌<◌};
+
+use std::ops::Range;
+
 // How much there can be: nodes on a roster, s_groups, names in an s_group.
 pub const NODE_LIMIT: usize = nodes::NODE_LIMIT as usize;
 
@@ -39,3 +43,27 @@ pub const ROW_WORDS: usize = 2;
 
 // How many words an index has: a row for each name that a table can hold.
 pub const INDEX_WORDS: usize = ROW_WORDS * GROUP_LIMIT * NAMES_PER_GROUP;
+
+// The name of an s_group, from its contents word.
+pub fn group_name(contents: u64) -> u64
+    ensures { result ≡ contents % GROUP_NAMES }
+{
+    contents % GROUP_NAMES
+}
+
+// How many names an s_group has, from its contents word.
+pub fn name_count(contents: u64) -> usize
+    ensures { result ≡ contents / GROUP_NAMES }
+{
+    (contents / GROUP_NAMES) as usize
+}
+
+// The bounds of the words of the names of the s_group at a place.
+pub fn own_words(at: usize) -> Range<usize>
+    requires { at < GROUP_LIMIT }
+    ensures start { result.start ≡ BODIES_AT + NAMES_PER_GROUP * at }
+    ensures end { result.end ≡ result.start + NAMES_PER_GROUP }
+{
+    let start = BODIES_AT + NAMES_PER_GROUP * at;
+    start..start + NAMES_PER_GROUP
+}

@@ -70,7 +70,8 @@ fn pairs_mutual(links: &[u64; NODE_WORDS], n: usize) -> bool
     all
 }
 
-// The digits in which two rows, of which the second is j further on, change sides in a round at the place j. mask has the columns whose place j is 0.
+// The digits in which two rows, of which the second is j further on, change sides in a round at the place j. mask has the columns whose place j is 0. That j is
+// below 64 is asked of the three that shift by it: `exchange` has it of `Half`, and a struct of j alone would only wrap it.
 fn crossing(x: u64, y: u64, j: u32, mask: u64) -> u64
     requires { j < node_limit }
     ensures { result ≡ crossing j mask x y }

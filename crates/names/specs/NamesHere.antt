@@ -42,24 +42,35 @@ module _ {st : State} {t : List ℕ} (l : Laid names_per_group st t) (k : ℕ) (
   pub count-is : counted k t ≡ length (names_at k st)
   count-is = count-here l k w.below w.regular.small
 
-  module _ (b e : ℕ) (eb : b ≡ bodies_at + names_per_group * k) (ee : e ≡ b + names_per_group) where
-    pub found_here : (n : ℕ) → found (counted k t) n (take (e - b) (drop b t)) ≡ answer_at (rank n (names_at k st)) (lookup n (names_at k st))
-    found_here n =
-        rw (count-is, own_words l k w.below b e eb ee) (found-words names_per_group st.size n (names_at k st) w.regular.names_sound)
+  -- ---- read
+
+  module _ (ns : List ℕ) (lent : ns ≡ take names_per_group (drop (bodies_at + names_per_group * k) t)) where
+    pub read-here : ns ≡ words names_per_group (names_at k st)
+    read-here =
+        let b : ℕ = bodies_at + names_per_group * k in
+        let many : b + names_per_group - b ≡ names_per_group = omega arith in
+        lent ∙ ap (λ (n : ℕ). take n (drop b t)) (sym many) ∙ own_words l k w.below b (b + names_per_group) refl refl
+
+    pub found_here : (n : ℕ) → found (counted k t) n ns ≡ answer_at (rank n (names_at k st)) (lookup n (names_at k st))
+    found_here n = rw (count-is, read-here) (found-words names_per_group st.size n (names_at k st) w.regular.names_sound)
 
     -- and told by the members
     pub seen_here : (n : ℕ) → k < group_limit
-        → seen_of (get_or t (members_at + k) 0) (found (counted k t) n (take (e - b) (drop b t))) ≡ lookup_seen (group_at st.groups k).members (lookup n (names_at k st))
+        → seen_of (get_or t (members_at + k) 0) (found (counted k t) n ns) ≡ lookup_seen (group_at st.groups k).members (lookup n (names_at k st))
     seen_here n h =
-        rw (members-word l k h ∙ members_at-place st.groups k, count-is, own_words l k w.below b e eb ee)
+        rw (members-word l k h ∙ members_at-place st.groups k, count-is, read-here)
         (seen-words names_per_group st.size n (group_at st.groups k).members (names_at k st) w.regular.names_sound)
 
-    pub changed-here : (n : ℕ) → change_of (found (counted k t) n (take (e - b) (drop b t))) ≡ changed (lookup n (names_at k st))
-    changed-here n = ap change_of (found_here n) ∙ changed-at (rank n (names_at k st)) (lookup n (names_at k st))
+    pub pid-here : (p : ℕ) → pid_answer (counted k t) p ns ≡ Ok (holds_pid p (names_at k st))
+    pid-here p = rw (count-is, read-here) (pid_answer-words names_per_group st.size p (names_at k st) w.regular.names_sound)
 
-    pub pid-here : (p : ℕ) → pid_answer (counted k t) p (take (e - b) (drop b t)) ≡ Ok (holds_pid p (names_at k st))
-    pid-here p =
-        rw (count-is, own_words l k w.below b e eb ee) (pid_answer-words names_per_group st.size p (names_at k st) w.regular.names_sound)
+  -- ---- written
+
+  module _ (b e : ℕ) (eb : b ≡ bodies_at + names_per_group * k) (ee : e ≡ b + names_per_group) where
+    pub changed-here : (n : ℕ) → change_of (found (counted k t) n (take (e - b) (drop b t))) ≡ changed (lookup n (names_at k st))
+    changed-here n =
+        ap change_of (rw (count-is, own_words l k w.below b e eb ee) (found-words names_per_group st.size n (names_at k st) w.regular.names_sound))
+        ∙ changed-at (rank n (names_at k st)) (lookup n (names_at k st))
 
     -- how many names are left without those of some hosts
     pub left_here : (hosts : ℕ) → hosted_answer (counted k t) hosts (take (e - b) (drop b t)) ≡ Ok (length (drop_hosted hosts (names_at k st)))

@@ -1,5 +1,7 @@
-// Whether a namespace is sound. Pids are told apart by slots, which the caller lends: a slot holds the stamp of the namespace whose pid came by last, so that nothing
-// is cleared between two namespaces with different stamps. A slot that holds the stamp leads to an exact look back; whatever the slots hold, the answer is the same.
+// Whether a namespace is sound. Pids are told apart by slots, which the caller lends: a slot holds the stamp of the namespace whose pid came by last, so that
+// nothing is cleared between two namespaces with different stamps. A slot that holds the stamp leads to an exact look back; whatever the slots hold, the answer
+// is the same. The count comes beside the run: `sound_words` of entries/NamespaceSound answers a count beyond the run as well. Slots and stamp stand side by
+// side: in a struct that is lent as `&mut` the stamp could change too, so that each of these functions would have to promise besides that it does not.
 #![tactic(auto)]
 
 ghost use Rattle.std.specs.Prelude.{◌≡◌, ◌&&◌, ◌≤◌, ◌%◌, eqb, length, get_or, set};
@@ -23,7 +25,7 @@ const SLOT_DIGIT: u64 = 4194304;
 // So many words are passed in a turn.
 const TURN: usize = 4;
 
-// Whether every word is zero. It looks at all of them: that takes less time than to stop early.
+// Whether every word is zero. It looks at all of them: `all`, which stops early, takes four times as long on 32 words of zero (tried in plain Rust).
 fn all_zero(words: &[u64]) -> bool
     ensures { result ≡ all_zero words.now }
 {
@@ -34,16 +36,16 @@ fn all_zero(words: &[u64]) -> bool
     any == 0
 }
 
-// Whether each pid of the first `count` words has its host among the first `size` nodes. With a full roster every pid has. It looks at all of them.
-fn hosted(ns: &[u64], count: usize, size: u32) -> bool
-    requires { count ≤ length ns.now }
-    ensures { result ≡ is_hosted size (entries count ns.now) }
+// Whether each pid of the words has its host among the first `size` nodes. With a full roster every pid has. It looks at all
+// of them: `all`, which stops early, takes twice as long at 32 names (tried in plain Rust).
+fn hosted(words: &[u64], size: u32) -> bool
+    ensures { result ≡ is_hosted size (entries (length words.now) words.now) }
 {
     if NODE_LIMIT <= size {
         return true;
     }
     let mut right = true;
-    for word in &ns[..count] {
+    for word in words {
         right &= host_of(pid_of(*word)) < size;
     }
     right
@@ -80,7 +82,8 @@ fn name_before(ns: &[u64], i: usize) -> u32
     name_of(ns[i - 1])
 }
 
-// Stamps the slot of the word's pid, and says whether the word is plainly right after one of the name `last`: its name is higher, and its slot did not hold the stamp.
+// Stamps the slot of the word's pid, and says whether the word is plainly right after one of the name `last`: its name is higher, and its slot did not hold the
+// stamp.
 fn is_plain(word: u64, last: u32, seen: &mut [u8; SLOT_COUNT], stamp: u8) -> bool
     ensures value { result ≡ is_plain word last stamp seen.old }
     ensures seen_after { seen.new ≡ set seen.old (slot (word % half_word)) stamp }
@@ -88,21 +91,15 @@ fn is_plain(word: u64, last: u32, seen: &mut [u8; SLOT_COUNT], stamp: u8) -> boo
     !((name_of(word) <= last) | taken(pid_of(word), seen, stamp))
 }
 
-// Passes the words from `from` on, four in a turn, up to one that is not plainly right or to the last three, and stamps the slot of each.
-fn pass(
-    ns: &[u64],
-    from: usize,
-    before: u32,
-    count: usize,
-    seen: &mut [u8; SLOT_COUNT],
-    stamp: u8,
-) -> usize
-    requires { (count ≤ length ns.now) × (Reached ns.now count stamp from before seen.old) }
-    ensures { (from ≤ result) × (Passed ns.now count stamp result seen.new) }
+// Passes the words from `from` on, four in a turn, up to one that is not plainly right or to the last three, and stamps the slot of each. With a word a turn
+// plain Rust took a third longer (docs/DECISIONS.md); by index, since it goes on where `stamped` says, and says itself how far it came.
+fn pass(ns: &[u64], from: usize, before: u32, seen: &mut [u8; SLOT_COUNT], stamp: u8) -> usize
+    requires { Reached ns.now (length ns.now) stamp from before seen.old }
+    ensures { (from ≤ result) × (Passed ns.now (length ns.now) stamp result seen.new) }
 {
     let mut last = before;
     let mut i = from;
-    while TURN <= count - i {
+    while TURN <= ns.len() - i {
         let a = ns[i];
         let b = ns[i + 1];
         let c = ns[i + 2];
@@ -131,19 +128,18 @@ fn stands_before(ns: &[u64], i: usize, pid: u32, seen: &mut [u8; SLOT_COUNT], st
     ensures value { result ≡ holds_pid pid (entries i ns.now) }
     ensures seen_after { seen.new ≡ set seen.old (slot pid) stamp }
 {
-    taken(pid, seen, stamp) && has_pid(ns, i, pid)
+    taken(pid, seen, stamp) && has_pid(&ns[..i], pid)
 }
 
-// Whether the names of the first `count` words ascend from 1 and no pid stands twice. By index: a pass says how far it came.
-fn stamped(ns: &[u64], count: usize, seen: &mut [u8; SLOT_COUNT], stamp: u8) -> bool
-    requires { count ≤ length ns.now }
-    ensures { result ≡ is_ascending 0 (entries count ns.now) && is_distinct (entries count ns.now) }
+// Whether the names of the words ascend from 1 and no pid stands twice. By index: a pass says how far it came.
+fn stamped(ns: &[u64], seen: &mut [u8; SLOT_COUNT], stamp: u8) -> bool
+    ensures { result ≡ is_ascending 0 (entries (length ns.now) ns.now) && is_distinct (entries (length ns.now) ns.now) }
 {
     let mut last = 0;
     let mut i = 0;
-    while i < count {
-        i = pass(ns, i, last, count, seen, stamp);
-        if i < count {
+    while i < ns.len() {
+        i = pass(ns, i, last, seen, stamp);
+        if i < ns.len() {
             let name = name_of(ns[i]);
             if name <= name_before(ns, i) {
                 return false;
@@ -162,8 +158,8 @@ fn stamped(ns: &[u64], count: usize, seen: &mut [u8; SLOT_COUNT], stamp: u8) -> 
 pub fn is_sound(ns: &[u64], count: usize, size: u32, seen: &mut [u8; SLOT_COUNT], stamp: u8) -> bool
     ensures { result ≡ sound_words size count ns.now }
 {
-    if ns.len() < count || !all_zero(&ns[count..]) || !hosted(ns, count, size) {
+    if ns.len() < count || !all_zero(&ns[count..]) || !hosted(&ns[..count], size) {
         return false;
     }
-    stamped(ns, count, seen, stamp)
+    stamped(&ns[..count], seen, stamp)
 }

@@ -19,9 +19,9 @@ ghost use Rattle.returns.specs.Settled.{Settles};
 use answers::{Answer, Reason, Value, done, refused, said};
 use inputs::{check_name, check_pid};
 use layout::NAMES_PER_GROUP;
-use names::{add_name, drop_name, find_name, names_count, pid_held, replace_name};
+use names::{add_name, drop_name, find_name, pid_held, replace_name};
 use place::place_for;
-use sound_table::SoundTable;
+use sound_table::{GroupAt, SoundTable};
 
 // The name and the pid, neither of which is held, in the s_group at `at`, where it has room.
 fn register_new(t: &mut [u64], at: usize, n: u32, p: u32) -> Answer
@@ -29,7 +29,8 @@ fn register_new(t: &mut [u64], at: usize, n: u32, p: u32) -> Answer
     requires at_lt_group_limit { at < group_limit }
     ensures { (st : State) → Laid names_per_group st t.old → Regular names_per_group st → (s : ℕ) (w : Seat s at st.groups) → held (lookup n (names_at at st)) ≡ false → holds_pid p (names_at at st) ≡ false → Settles s (register_in n p w.group) st result t.new }
 {
-    if NAMES_PER_GROUP <= names_count(t, at) {
+    let count = GroupAt { words: t, at }.count();
+    if NAMES_PER_GROUP <= count {
         return said(Value::False, Reason::NamespaceFull);
     }
     add_name(t, at, n, p);
@@ -42,10 +43,10 @@ fn register_in(t: &mut [u64], at: usize, n: u32, p: u32) -> Answer
     requires at_lt_group_limit { at < group_limit }
     ensures { (st : State) → Laid names_per_group st t.old → Regular names_per_group st → (s : ℕ) (w : Seat s at st.groups) → Settles s (register_in n p w.group) st result t.new }
 {
-    if find_name(t, at, n).is_ok() {
+    if find_name(GroupAt { words: t, at }, n).is_ok() {
         return said(Value::False, Reason::NameTaken);
     }
-    if pid_held(t, at, p) {
+    if pid_held(GroupAt { words: t, at }, p) {
         return said(Value::False, Reason::PidTaken);
     }
     register_new(t, at, n, p)
@@ -57,7 +58,7 @@ fn re_register_in(t: &mut [u64], at: usize, n: u32, p: u32) -> Answer
     requires at_lt_group_limit { at < group_limit }
     ensures { (st : State) → Laid names_per_group st t.old → Regular names_per_group st → (s : ℕ) (w : Seat s at st.groups) → Settles s (re_register_in n p w.group) st result t.new }
 {
-    if pid_held(t, at, p) {
+    if pid_held(GroupAt { words: t, at }, p) {
         return said(Value::False, Reason::PidTaken);
     }
     if replace_name(t, at, n, p) {

@@ -84,7 +84,8 @@ pub fn count(set: u64) -> u32
     u64::count_ones(set)
 }
 
-// The lowest node of the set, and 64 where it has none.
+// The lowest node of the set, and 64 where it has none: no Option, since `created` of creating/Creating and `made` of launch/Launch cite `lowest` as the number of
+// the caller, and `is_lowest` of free_test/WireTests as a place, for every set.
 pub fn lowest(set: u64) -> u32
     ensures { result ≡ lowest set }
 {

@@ -10,7 +10,7 @@ use answers::{Answer, Reason, Value, done, refused};
 use layout::{BODIES_AT, FREE_AT, HIDDEN_AT, NODE_LIMIT, SIZE_AT, TABLE_WORDS};
 use nodes::Members;
 
-// Each node of the set stands in its own word, alone.
+// Each node of the set stands in its own word, alone. By an index: once the borrow of `get_mut` is over, a proof knows nothing of what was written through it.
 fn alone(words: &mut [u64], set: u64)
     ensures { words.new ≡ mapi (λ i w. cond (has set i) (with_node 0 i) w) 0 words.old }
 {
@@ -22,7 +22,8 @@ fn alone(words: &mut [u64], set: u64)
     }
 }
 
-// Opens the table for n nodes, some of them hidden: nobody is grouped or connected, and every normal node is a free group by itself.
+// Opens the table for n nodes, some of them hidden, as `sgroup_open` of C takes the two: nobody is grouped or connected, and every normal node is a free group
+// by itself.
 pub fn open(t: &mut [u64], n: u32, hidden: u64) -> Answer
     ensures value { result ≡ (opening n hidden t.old).answer }
     ensures t_after { t.new ≡ (opening n hidden t.old).table }

@@ -12,7 +12,7 @@ ghost use Rattle.own.specs.OwnWords.{shared_members, own_length, own_words};
 
 use answers::{Answer, Reason, Value, done, refused};
 use inputs::check_caller;
-use layout::{FREE_AT, GROUP_NAMES};
+use layout::{FREE_AT, group_name};
 use sound_table::SoundTable;
 
 // The nodes of the sets that have the node.
@@ -64,7 +64,8 @@ fn own_length(members: &[u64], node: u32) -> usize
     2 * own.count()
 }
 
-// The name and the members of each of the s_groups that have the node, in the run.
+// The name and the members of each of the s_groups that have the node, in the run. Contents and members are two runs, since a table has them in two sections
+// (`contents_at` and `members_at` of semantics/Sizes); `zip` goes over both.
 fn write_own(contents: &[u64], members: &[u64], node: u32, out: &mut [u64])
     requires { length (own_words node contents.now members.now) ≤ length out.old }
     ensures { out.new ≡ listed_over (own_words node contents.now members.now) out.old }
@@ -72,7 +73,7 @@ fn write_own(contents: &[u64], members: &[u64], node: u32, out: &mut [u64])
     let mut at = 0;
     for (word, set) in contents.iter().zip(members) {
         if nodes::has(*set, node) {
-            out[at] = *word % GROUP_NAMES;
+            out[at] = group_name(*word);
             out[at + 1] = *set;
             at += 2;
         }

@@ -7,7 +7,7 @@ ghost use Rattle.semantics.specs.Table.{state_of};
 ghost use Rattle.place.specs.Place.{place_in, place_of, place_for};
 
 use answers::Reason;
-use layout::GROUP_NAMES;
+use layout::group_name;
 use sound_table::SoundTable;
 
 // The place of the name among contents words, which ascend by name: where it stands, or where it would be put.
@@ -16,7 +16,7 @@ fn place_in(contents: &[u64], s: u32) -> Result<usize, usize>
 {
     let name = s as u64;
     for (i, word) in contents.iter().enumerate() {
-        let other = *word % GROUP_NAMES;
+        let other = group_name(*word);
         if name <= other {
             return if other == name { Ok(i) } else { Err(i) };
         }

@@ -1,8 +1,8 @@
 // The steps of registered_names and whereis_name.
 #![tactic(auto)]
 
-ghost use Rattle.std.specs.Prelude.{◌≡◌, ◌<◌, length};
-ghost use Rattle.semantics.specs.Sizes.{group_limit, names_per_group, table_words};
+ghost use Rattle.std.specs.Prelude.{◌≡◌, length};
+ghost use Rattle.semantics.specs.Sizes.{names_per_group};
 ghost use Rattle.semantics.specs.State.{State};
 ghost use Rattle.commands.specs.declared.Command.TheVariants.{RegisteredNames, WhereisName};
 ghost use Rattle.semantics.specs.Call.{call, listed_over};
@@ -14,21 +14,15 @@ ghost use Rattle.returns.specs.Listing.{Told};
 
 use answers::{Answer, Reason, Value, done, refused, said};
 use inputs::{check_group, check_name};
-use layout::{BODIES_AT, NAMES_PER_GROUP};
-use names::{look, names_count};
+use names::look;
 use place::place_for;
-use sound_table::SoundTable;
+use sound_table::{GroupAt, SoundTable};
 
-// The names of the s_group `s`, which stands at `at`, in the run, where it has room.
-fn list_names(t: &[u64], at: usize, s: u32, out: &mut [u64]) -> Answer
-    requires t_len { length t.now ≡ table_words names_per_group }
-    requires at_lt_group_limit { at < group_limit }
-    ensures { (st : State) → Laid names_per_group st t.now → Standing at st → Told (names_in (length out.old) s (group_at st.groups at)) out.old result out.new }
+// The names of the s_group, which is called `s`, in the run, where it has room.
+fn list_names(g: GroupAt<'_>, s: u32, out: &mut [u64]) -> Answer
+    ensures { (st : State) → Laid names_per_group st g.entry.words.now → Standing g.entry.at st → Told (names_in (length out.old) s (group_at st.groups g.entry.at)) out.old result out.new }
 {
-    let count = names_count(t, at);
-    let start = BODIES_AT + NAMES_PER_GROUP * at;
-    let end = start + NAMES_PER_GROUP;
-    match namespace::list_names(&t[start..end], count, s, out) {
+    match namespace::list_names(g.names(), g.count(), s, out) {
         Ok(words) => done(Value::Listed(words)),
         Err(_) => refused(Reason::RunShort),
     }
@@ -43,7 +37,7 @@ pub fn registered_names(t: SoundTable<'_>, caller: u32, s: u32, out: &mut [u64])
         return refused(reason);
     }
     match place_for(t, caller, s) {
-        Ok(at) => list_names(t.words, at, s, out),
+        Ok(at) => list_names(GroupAt { words: t.words, at }, s, out),
         Err(denial) => said(Value::Listed(0), denial),
     }
 }

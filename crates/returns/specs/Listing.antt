@@ -1,5 +1,5 @@
 -- What an outcome with a list answers and leaves in the run for it, and the list of an s_group's names. Assumes nothing.
-use Rattle.std.specs.Prelude.{◌≡◌, refl, Bool, true, false, cond, List, ◌++◌, ℕ, ◌+◌, ◌-◌, ◌*◌, ◌≤◌, ◌<◌, leb, length, drop, take, Result, Ok, Err}
+use Rattle.std.specs.Prelude.{◌≡◌, refl, Bool, true, false, cond, List, ◌++◌, ℕ, ◌+◌, ◌*◌, ◌≤◌, ◌<◌, leb, length, drop, take, Result, Ok, Err}
 use Rattle.std.proofs.Common.{sym, ap, ap₂, ◌∙◌, arith}
 use Rattle.std.proofs.lemmas.List.{length-map}
 use borrow.Author.Tests.{leb-true, leb-false, le-leb, lt-ltb, le-ltb}
@@ -23,8 +23,7 @@ use Rattle.answers.specs.declared.Value.TheVariants.{Error, Listed}
 use Rattle.answers.specs.declared.Reason.TheVariants.{Done, RunShort}
 use Rattle.returns.specs.Judged.{names_in}
 use Rattle.names.specs.NamesAt.{Standing, counted, names_at}
-use Rattle.names.specs.Renamed.{own_words}
-use Rattle.names.specs.NamesHere.{count-is}
+use Rattle.names.specs.NamesHere.{count-is, read-here}
 
 -- the answer a is that of the outcome, and its list stands at the start of the run, which was out
 pub record Told (w : Outcome) (out : List ℕ) (a : Answer) (o : List ℕ) : Type 0 where
@@ -79,11 +78,12 @@ module _ (size s : ℕ) (es : List Entry) (out : List ℕ) (sound : Sound names_
 
 -- ---- the names of the s_group at a place, whose words were lent
 
-module _ {st : State} {t : List ℕ} (l : Laid names_per_group st t) (k : ℕ) (w : Standing k st) (b e : ℕ) (eb : b ≡ bodies_at + names_per_group * k) (ee : e ≡ b + names_per_group)
+module _ {st : State} {t : List ℕ} (l : Laid names_per_group st t) (k : ℕ) (w : Standing k st)
+    (ns : List ℕ) (lent : ns ≡ take names_per_group (drop (bodies_at + names_per_group * k) t))
     (s count : ℕ) (ec : count ≡ counted k t) (out : List ℕ) (x : Result ℕ Refusal) (o : List ℕ)
-    (answers : x ≡ list_answer count (take (e - b) (drop b t)) out) (leaves : o ≡ listed count s (take (e - b) (drop b t)) out) where
-  on-words : {A : Type 0} (f : ℕ → List ℕ → A) → f count (take (e - b) (drop b t)) ≡ f (length (names_at k st)) (words names_per_group (names_at k st))
-  on-words f = ap₂ f (ec ∙ count-is l k w) (own_words l k w.below b e eb ee)
+    (answers : x ≡ list_answer count ns out) (leaves : o ≡ listed count s ns out) where
+  on-words : {A : Type 0} (f : ℕ → List ℕ → A) → f count ns ≡ f (length (names_at k st)) (words names_per_group (names_at k st))
+  on-words f = ap₂ f (ec ∙ count-is l k w) (read-here l k w ns lent)
 
   left : o ≡ listed (length (names_at k st)) s (words names_per_group (names_at k st)) out
   left = leaves ∙ on-words (λ n ws. listed n s ws out)

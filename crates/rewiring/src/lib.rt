@@ -1,4 +1,6 @@
-// What changes the connections and the free groups, in place: node i has the word i of a run. A node past the end of a run touches nothing.
+// What changes the connections and the free groups, in place: node i has the word i of a run. A node past the end of a run touches nothing. A run and a set
+// stand side by side, since the run is a section of the table and the set is the command's; words are taken by an index, since once the borrow of `get_mut` is
+// over, a proof knows nothing of what was written through it.
 #![tactic(auto)]
 
 ghost use Rattle.std.specs.Prelude.{◌≡◌, cond, ◌%◌, eqb};

@@ -1,15 +1,17 @@
 // A sound table, lent for reading: its head, and the words of its s_groups.
 #![tactic(auto)]
 
-ghost use Rattle.std.specs.Prelude.{◌≡◌, ◌≤◌, true, length, take, drop};
+ghost use Rattle.std.specs.Prelude.{◌≡◌, ◌+◌, ◌*◌, ◌/◌, ◌≤◌, ◌<◌, true, length, get_or, take, drop};
 ghost use Rattle.nodes.specs.Sets.{node_limit};
-ghost use Rattle.semantics.specs.Sizes.{group_limit, names_per_group, table_words, contents_at, members_at};
+ghost use Rattle.semantics.specs.Sizes.{group_limit, group_names, names_per_group, table_words, contents_at, members_at, bodies_at};
 ghost use Rattle.semantics.specs.Soundness.{size_of, count_of};
 ghost use Rattle.semantics.specs.Test.{sound};
 
-use layout::{CONTENTS_AT, COUNT_AT, MEMBERS_AT, SIZE_AT};
+use layout::{CONTENTS_AT, COUNT_AT, MEMBERS_AT, SIZE_AT, name_count, own_words};
 
-// The words of a sound table. What writes takes the bare words: between its writes the table is no sound one, and a `&mut` held here would have to keep the facts at each.
+// The words of a sound table. What writes (`names`, `groups`, `connecting`, `naming`, `reaching`, `grouping`, `step`) takes the bare words, with their length
+// as a fact: between its writes the table is no sound one, and a function that takes a struct with a `&mut` in it has to promise besides that the struct still
+// holds the caller's run.
 #[derive(Clone, Copy)]
 pub struct SoundTable<'a> {
     pub words: &'a [u64],
@@ -46,5 +48,37 @@ impl<'a> SoundTable<'a> {
         ensures { result.now ≡ take (count_of self.entry.words.now) (drop members_at self.entry.words.now) }
     {
         &self.words[MEMBERS_AT..MEMBERS_AT + self.count()]
+    }
+}
+
+// The s_group at a place of a table's words, lent for reading.
+#[derive(Clone, Copy)]
+pub struct GroupAt<'a> {
+    pub words: &'a [u64],
+    pub at: usize,
+    pub ghost sized: { length words.now ≡ table_words names_per_group },
+    pub ghost below: { at < group_limit },
+}
+
+impl<'a> GroupAt<'a> {
+    // How many names it has.
+    pub fn count(self) -> usize
+        ensures { result ≡ get_or self.entry.words.now (contents_at + self.entry.at) 0 / group_names }
+    {
+        name_count(self.words[CONTENTS_AT + self.at])
+    }
+
+    // Its members.
+    pub fn members(self) -> u64
+        ensures { result ≡ get_or self.entry.words.now (members_at + self.entry.at) 0 }
+    {
+        self.words[MEMBERS_AT + self.at]
+    }
+
+    // The words of its names.
+    pub fn names(self) -> &'a [u64]
+        ensures { result.now ≡ take names_per_group (drop (bodies_at + names_per_group * self.entry.at) self.entry.words.now) }
+    {
+        &self.words[own_words(self.at)]
     }
 }

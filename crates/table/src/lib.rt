@@ -11,6 +11,7 @@ ghost use Rattle.groups_test.specs.GroupTests.{part, head_right, unused_zero, re
 
 use answers::Reason;
 use free_test::{all_zero, free_sound};
+use groups_test::Counted;
 use layout::{
     BODIES_AT, CONTENTS_AT, COUNT_AT, FREE_AT, GROUP_LIMIT, HIDDEN_AT, LINKS_AT, MEMBERS_AT,
     NAMES_PER_GROUP, NODE_LIMIT, SIZE_AT, SPARE_AT, TABLE_WORDS,
@@ -30,52 +31,51 @@ fn head_sound(size: u64, hidden: u64, count: u64, spare: u64) -> bool
     (count <= GROUP_LIMIT as u64) & ((spare == 0) & !nodes::beyond(hidden, size as u32))
 }
 
-// Whether the words of names from the s_group g on are zero, a namespace at a time: a single loop over all of them takes half as long again where its code
+// Whether the words of names past the s_groups that there are are zero, a namespace at a time: a single loop over all of them takes half as long again where its code
 // falls into two lines of the processor's code cache.
-fn bodies_zero(t: &[u64], g: usize, cap: usize) -> bool
-    requires { (length t.now ≡ table_words cap) × (g ≤ group_limit) }
-    ensures { result ≡ all_zero (part t.now (bodies_at + cap * g) (table_words cap)) }
+fn bodies_zero(t: Counted<'_>) -> bool
+    ensures { result ≡ all_zero (part t.entry.words.now (bodies_at + t.entry.cap * t.entry.count) (table_words t.entry.cap)) }
 {
     let mut right = true;
-    for i in g..GROUP_LIMIT {
-        let start = BODIES_AT + cap * i;
-        right &= all_zero(&t[start..start + cap]);
+    for i in t.count..GROUP_LIMIT {
+        right &= all_zero(t.body(i));
     }
     right
 }
 
-// Whether contents, members and names past the first g s_groups are zero, where each holds at most `cap` names.
-fn unused_zero(t: &[u64], g: usize, cap: usize) -> bool
-    requires { (length t.now ≡ table_words cap) × (g ≤ group_limit) }
-    ensures { result ≡ unused_zero cap t.now g }
+// Whether contents, members and names past the s_groups that there are are zero.
+fn unused_zero(t: Counted<'_>) -> bool
+    ensures { result ≡ unused_zero t.entry.cap t.entry.words.now t.entry.count }
 {
-    let contents = CONTENTS_AT + g;
-    let members = MEMBERS_AT + g;
-    all_zero(&t[contents..MEMBERS_AT]) & (all_zero(&t[members..LINKS_AT]) & bodies_zero(t, g, cap))
+    let contents = &t.words[CONTENTS_AT + t.count..MEMBERS_AT];
+    let members = &t.words[MEMBERS_AT + t.count..LINKS_AT];
+    all_zero(contents) & (all_zero(members) & bodies_zero(t))
 }
 
-// Whether all that follows contents and members is right, for g s_groups of at most `cap` names, n nodes, and those of them in an s_group. It goes
-// through the table from front to back.
-fn rest_sound(t: &[u64], g: usize, n: u32, cap: usize, grouped: u64) -> bool
-    requires { (length t.now ≡ table_words cap) × (g ≤ group_limit) }
-    ensures { result ≡ rest_right cap t.now g n grouped }
+// Whether all that follows contents and members is right, for n nodes, and those of them in an s_group. It goes through the table from front to back.
+fn rest_sound(t: Counted<'_>, n: u32, grouped: u64) -> bool
+    ensures { result ≡ rest_right t.entry.cap t.entry.words.now t.entry.count n grouped }
 {
-    let loose = nodes::diff(nodes::diff(nodes::roster(n), t[HIDDEN_AT]), grouped);
-    let links = links_sound(&t[LINKS_AT..FREE_AT], n);
-    let met = groups_test::members_met(t, g);
-    let free = free_sound(&t[LINKS_AT..FREE_AT], &t[FREE_AT..BODIES_AT], loose, n);
-    let unused = unused_zero(t, g, cap);
-    let names = groups_test::names_sound(t, g, n, cap);
+    let loose = nodes::diff(nodes::diff(nodes::roster(n), t.words[HIDDEN_AT]), grouped);
+    let links = links_sound(&t.words[LINKS_AT..FREE_AT], n);
+    let met = groups_test::members_met(t);
+    let free = free_sound(
+        &t.words[LINKS_AT..FREE_AT],
+        &t.words[FREE_AT..BODIES_AT],
+        loose,
+        n,
+    );
+    let unused = unused_zero(t);
+    let names = groups_test::names_sound(t, n);
     links & (met & (free & (unused & names)))
 }
 
-// Whether all that follows the head is right, for g s_groups of at most `cap` names and n nodes.
-fn parts_sound(t: &[u64], g: usize, n: u32, cap: usize) -> bool
-    requires { (length t.now ≡ table_words cap) × (g ≤ group_limit) }
-    ensures { result ≡ parts_right cap t.now g n }
+// Whether all that follows the head is right, for n nodes.
+fn parts_sound(t: Counted<'_>, n: u32) -> bool
+    ensures { result ≡ parts_right t.entry.cap t.entry.words.now t.entry.count n }
 {
-    match groups_test::grouped_nodes(t, g, n, cap) {
-        Some(grouped) => rest_sound(t, g, n, cap, grouped),
+    match groups_test::grouped_nodes(t, n) {
+        Some(grouped) => rest_sound(t, n, grouped),
         None => false,
     }
 }
@@ -91,7 +91,14 @@ fn sound_for(t: &[u64], cap: usize) -> bool
     let size = t[SIZE_AT];
     let count = t[COUNT_AT];
     if head_sound(size, t[HIDDEN_AT], count, t[SPARE_AT]) {
-        return parts_sound(t, count as usize, size as u32, cap);
+        return parts_sound(
+            Counted {
+                words: t,
+                count: count as usize,
+                cap,
+            },
+            size as u32,
+        );
     }
     false
 }

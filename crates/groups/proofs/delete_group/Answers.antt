@@ -5,10 +5,10 @@ use mathlib.Core.Path.{◌≡◌, refl, ap, ◌∙◌}
 use mathlib.Core.List.{[], ◌∷◌, map, map-append}
 use Prim.Native.Nat.{ℕ, ◌+◌, ◌-◌, ◌*◌}
 use lib.Dec.{lit<}
-use lib.ListN.{length, get_or, length-set, length-append, length-map}
+use lib.ListN.{length, get_or, length-append, length-map}
 use Rattle.entries.specs.Entries.{words}
 use Rattle.entries.specs.Storage.{length-words}
-use Rattle.semantics.specs.Sizes.{group_limit, names_per_group, contents_at, members_at, bodies_at}
+use Rattle.semantics.specs.Sizes.{group_limit, names_per_group, contents_at, members_at}
 use Rattle.semantics.specs.Table.{contents, bodies, sections}
 use Rattle.semantics.specs.Bodies.{length-bodies, bodies-append}
 use Rattle.semantics.specs.Sections.{store}
@@ -30,6 +30,6 @@ returns c = λ st l x y g is stands.
     (members_at + a.at) (members_at + G) (omega arith)
     (g.members ∷ []) (rw (is, mems-append x (g ∷ y))) refl (omega (arith, many, length-mems y)) (omega arith) (omega arith) c.drop_first-2.new.run c.drop_first-2.auto.run c.drop_first-2.ensures in
     let u3 = comes-out u2 5 (lit< tt) (group_limit * names_per_group) names_per_group (names_per_group * a.at) (names_per_group * G) (bodies names_per_group x) (bodies names_per_group y)
-    (omega (arith, length-bodies names_per_group x, stands)) (bodies_at + names_per_group * a.at) (bodies_at + names_per_group * G) (omega arith)
+    (omega (arith, length-bodies names_per_group x, stands)) c.own_words.result.start c.own_words-2.result.end (omega arith)
     (words names_per_group g.names) (rw (is, bodies-append names_per_group x (g ∷ y))) (length-words names_per_group g.names) (omega (arith, many, length-bodies names_per_group y)) (omega arith) (omega arith) c.drop_body.new.run c.drop_body.auto.run c.drop_body.ensures in
     deleted l x y a.at stands g is _ (store u3 0 (lit< tt) 2 (G - 1) (lit< tt))

@@ -5,8 +5,8 @@ use mathlib.Core.Path.{◌≡◌, ap, ◌∙◌}
 use mathlib.Core.List.{map, map-append}
 use Prim.Native.Nat.{ℕ, ◌+◌, ◌*◌}
 use lib.Dec.{lit<}
-use lib.ListN.{length, get_or, length-set, length-append, length-map}
-use Rattle.semantics.specs.Sizes.{group_limit, names_per_group, contents_at, members_at, bodies_at}
+use lib.ListN.{length, get_or, length-append, length-map}
+use Rattle.semantics.specs.Sizes.{group_limit, names_per_group, contents_at, members_at}
 use Rattle.semantics.specs.Table.{contents, bodies, sections}
 use Rattle.semantics.specs.Bodies.{length-bodies, bodies-append}
 use Rattle.semantics.specs.Sections.{store}
@@ -28,6 +28,6 @@ returns c = λ st l x y is stands.
     (members_at + a.at) (members_at + G + 1) (omega arith)
     (rw (is, mems-append x y)) (omega (arith, many, length-mems y)) (omega arith) (omega arith) a.set c.put_first-2.new.run c.put_first-2.auto.run c.put_first-2.ensures in
     let u3 = goes_in u2 5 (lit< tt) (group_limit * names_per_group) names_per_group (names_per_group * a.at) (names_per_group * G) (bodies names_per_group x) (bodies names_per_group y)
-    (omega (arith, length-bodies names_per_group x, stands)) (bodies_at + names_per_group * a.at) (bodies_at + names_per_group * (G + 1)) (omega arith)
+    (omega (arith, length-bodies names_per_group x, stands)) c.own_words.result.start c.own_words-2.result.end (omega arith)
     (rw (is, bodies-append names_per_group x y)) (omega (arith, many, length-bodies names_per_group y)) (omega arith) (omega arith) 0 c.put_body.new.run c.put_body.auto.run c.put_body.ensures in
     inserted l x y a.at stands is a.s a.set (omega arith) _ (store u3 0 (lit< tt) 2 (G + 1) (lit< tt))

@@ -6,4 +6,4 @@ use Rattle.groups_test.specs.GroupTests.{met_right}
 use Rattle.groups_test.proofs.few_met.Given as goal
 
 abbrev pub invariant-loop-i : goal.invariant-loop-i
-invariant-loop-i l = l.right ≡ all_below l.i (met_right l.t)
+invariant-loop-i l = l.right ≡ all_below l.i (met_right l.t.words.now)

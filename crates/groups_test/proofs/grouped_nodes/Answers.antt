@@ -13,24 +13,24 @@ use Rattle.groups_test.specs.GroupMembers.{grouped-none, grouped-step, right-ste
 use Rattle.groups_test.proofs.grouped_nodes.Goals as goal
 
 pub loop-i-init : goal.loop-i-init
-loop-i-init c = record { tested = sym (below_none _); gathered = sym (grouped-none c.args.t.now); before = search rules }
+loop-i-init c = record { tested = sym (below_none _); gathered = sym (grouped-none c.args.t.words.now); before = search rules }
 
 pub loop-i-preserved : goal.loop-i-preserved
 unfolding union
 loop-i-preserved c =
     let v = c.loop-i in
-    let t = c.args.t.now in
+    let t = c.args.t.words.now in
     record {
-      tested = right-step c.args.cap t v.i v.right v.invariant.tested v.last v.invariant.before;
-      gathered = ap (λ (w : ℕ). union w (members_of t v.i)) v.invariant.gathered ∙ grouped-step t c.requires.0 v.i (omega (arith, c.requires.1));
-      before = rw add-one;
+      tested = rw (c.group_name-name.ensures, c.name_count.ensures) (right-step c.args.t.cap t v.i v.right v.invariant.tested v.last v.invariant.before);
+      gathered = ap (λ (w : ℕ). union w (members_of t v.i)) v.invariant.gathered ∙ grouped-step t (omega arith) v.i (omega arith);
+      before = rw (c.group_name-name.ensures, add-one);
     }
 
 pub returns : goal.returns
 returns c =
     let v = c.loop-i in
     let a = c.args in
-    let end : v.i ≡ a.g = omega arith in
-    let few : v.i ≤ group_limit = omega (arith, c.requires.1) in
+    let end : v.i ≡ a.t.count = omega arith in
+    let few : v.i ≤ group_limit = omega arith in
     c.then_some.ensures
-    ∙ rw (← end) (grouped-told a.cap a.t.now v.i a.n c.requires.0 few v.right v.invariant.tested v.all v.invariant.gathered c.beyond.result c.beyond.ensures)
+    ∙ rw (← end) (grouped-told a.t.cap a.t.words.now v.i a.n (omega arith) few v.right v.invariant.tested v.all v.invariant.gathered c.beyond.result c.beyond.ensures)

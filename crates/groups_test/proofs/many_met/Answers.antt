@@ -16,7 +16,7 @@ loop-i-init c = sym (below_none _)
 pub loop-i-preserved : goal.loop-i-preserved
 loop-i-preserved c =
     let v = c.loop-i in
-    let t = c.args.t.now in
+    let t = c.args.t.words.now in
     let whole = rw c.unwrap-links.ensures at c.as_array.ensures.cases in
     let known = c.know in
     let met = known-met c.unwrap-links.result.now known.new.known (members_of t v.i) (ap length whole.same ∙ length_part t links_at free_at (omega arith)) known.ensures in

@@ -1,14 +1,12 @@
 -- `groups_test::names_sound` meets its contract: every s_group passed has a sound namespace.
 -- Assumes nothing.
 use mathlib.Core.Path.{sym, ap, ◌∙◌}
-use Prim.Native.Nat.{◌+◌, ◌*◌}
 use native.Mathlib.Omega.{arith}
 use Rattle.entries.specs.NamespaceSound.{sound_words}
-use Rattle.semantics.specs.Sizes.{bodies_at}
 use Rattle.semantics.specs.Soundness.{names_of}
 use Rattle.free_test.specs.Below.{below_none, below_step}
 use Rattle.groups_test.specs.GroupTests.{names_right}
-use Rattle.groups_test.specs.GroupsBelow.{below_fails, lent-part}
+use Rattle.groups_test.specs.GroupsBelow.{below_fails}
 use Rattle.groups_test.proofs.names_sound.Goals as goal
 
 pub loop-i-init : goal.loop-i-init
@@ -16,9 +14,10 @@ loop-i-init c = below_none _
 
 pub returns-then-not-is_sound : goal.returns-then-not-is_sound
 returns-then-not-is_sound c =
-    let a = c.args in
-    sym (below_fails a.g (names_right a.cap a.t.now a.n) c.loop-i.i (omega arith) (sym ((let a = c.args in c.is_sound.ensures ∙ ap (sound_words a.n (names_of a.t.now c.loop-i.i)) (lent-part (bodies_at + a.cap * c.loop-i.i) a.cap a.t.now))) ∙ c.if-not-is_sound.true))
+    let t = c.args.t in
+    sym (below_fails t.count (names_right t.cap t.words.now c.args.n) c.loop-i.i (omega arith)
+    (sym (rw (c.body.ensures, c.name_count-count.ensures) at c.is_sound.ensures) ∙ c.if-not-is_sound.true))
 
 pub loop-i-preserved : goal.loop-i-preserved
 loop-i-preserved c =
-    rw (below_step, c.loop-i.invariant) (sym ((let a = c.args in c.is_sound.ensures ∙ ap (sound_words a.n (names_of a.t.now c.loop-i.i)) (lent-part (bodies_at + a.cap * c.loop-i.i) a.cap a.t.now))) ∙ c.if-not-is_sound.false)
+    rw (below_step, c.loop-i.invariant) (sym (rw (c.body.ensures, c.name_count-count.ensures) at c.is_sound.ensures) ∙ c.if-not-is_sound.false)

@@ -13,12 +13,12 @@ pub returns-in_default : goal.returns-in_default
 unfolding state_of
 returns-in_default c = sym (ap (pid_in c.args.n) (no-seat c.args.t.words.now c.args.t.fit c.args.s c.place_of.result c.place_of.ensures c.in_default.not-Ok))
 
-pub find_name-requires : goal.find_name-requires
+pub invariant_of-find_name-clause-below : goal.invariant_of-find_name-clause-below
 unfolding state_of
-find_name-requires c =
+invariant_of-find_name-clause-below c =
     let t = c.args.t.words.now in
     let seat = sought-here t c.args.t.fit c.args.s c.place_of.result (Ok c.in-Ok.at) c.place_of.ensures c.in-Ok.is in
-    record { t_len = c.args.t.sized; at_lt_group_limit = found_below t c.args.t.fit seat }
+    found_below t c.args.t.fit seat
 
 pub returns-in_err-pid : goal.returns-in_err-pid
 unfolding state_of

@@ -20,10 +20,10 @@ unwrap-requires c =
     let b = c.own_words.result.start in
     let e = c.own_words.result.end in
     let long : length (take (e - b) (drop b t)) ≡ e - b = length-take-le (e - b) (drop b t) (omega (arith, length-drop b t)) in
-    adds c.names_count-count.result (take (e - b) (drop b t)) c.add.result (omega arith) c.add.ensures.value
+    adds c.name_count-count.result (take (e - b) (drop b t)) c.add.result (omega arith) c.add.ensures.value
 
 pub returns : goal.returns
 returns c =
     λ st l w absent.
     added-here l c.args.at w _ _ c.own_words.ensures.start c.own_words.ensures.end c.add.new.ns c.add.auto.ns c.args.n c.args.p
-    (rw c.names_count-count.ensures at c.add.ensures.ns_after) c.requires.t_bound absent
+    (rw c.name_count-count.ensures at c.add.ensures.ns_after) c.requires.t_bound absent

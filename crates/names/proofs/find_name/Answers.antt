@@ -5,4 +5,4 @@ use Rattle.names.specs.NamesHere.{found_here}
 use Rattle.names.proofs.find_name.Goals as goal
 
 pub returns : goal.returns
-returns c = λ st l w. c.find.ensures ∙ rw c.names_count.ensures (found_here l c.args.at w _ _ c.own_words.ensures.start c.own_words.ensures.end c.args.n)
+returns c = λ st l w. c.find.ensures ∙ rw c.count.ensures (found_here l c.args.g.at w c.names.result.now c.names.ensures c.args.n)

@@ -47,8 +47,8 @@ returns-in_err-at c =
     let p = err_from_is_err_and c.from_residual.result c.from_residual.ensures.1 in
     rw (p.1, p.2) (sym (ask-denied c.args.node c.args.s c.args.n (here t) c.if-s-eq0.false (granted-here t c.args.t.fit c.args.node c.args.s _ (Err c.in_err-at.field-0.0) c.in_err-at.ensures refl)))
 
-pub look_up-requires-clause-at_lt_group_limit : goal.look_up-requires-clause-at_lt_group_limit
-look_up-requires-clause-at_lt_group_limit c = low c.args.t.words.now c.args.t.fit c.args.node c.args.s c.in_ok-at.at c.in_ok-at.ensures
+pub invariant_of-look_up-clause-below : goal.invariant_of-look_up-clause-below
+invariant_of-look_up-clause-below c = low c.args.t.words.now c.args.t.fit c.args.node c.args.s c.in_ok-at.at c.in_ok-at.ensures
 
 pub returns-in-Ok-Inside : goal.returns-in-Ok-Inside
 returns-in-Ok-Inside c =

@@ -6,5 +6,4 @@ use Rattle.names.proofs.look_up.Goals as goal
 
 pub returns : goal.returns
 returns c =
-    λ st l w. c.look_up.ensures
-    ∙ rw c.names_count.ensures (seen_here l c.args.at w _ _ c.own_words.ensures.start c.own_words.ensures.end c.args.n c.requires.at_lt_group_limit)
+    λ st l w. c.look_up.ensures ∙ rw (c.count.ensures, c.members.ensures) (seen_here l c.args.g.at w c.names.result.now c.names.ensures c.args.n c.args.g.below)

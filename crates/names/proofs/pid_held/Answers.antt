@@ -6,5 +6,4 @@ use Rattle.names.proofs.pid_held.Goals as goal
 
 pub returns : goal.returns
 returns c =
-    λ st l w. c.unwrap_or.ensures
-    ∙ rw (c.holds_pid.ensures, c.names_count.ensures, pid-here l c.args.at w _ _ c.own_words.ensures.start c.own_words.ensures.end c.args.p)
+    λ st l w. c.unwrap_or.ensures ∙ rw (c.holds_pid.ensures, c.count.ensures, pid-here l c.args.g.at w c.names.result.now c.names.ensures c.args.p)

@@ -8,8 +8,6 @@ use Prim.Native.Nat.{ℕ, zero, suc, ◌+◌, ◌%◌, ◌≤◌, ◌<◌}
 use lib.ListN.{length, get_or}
 use lib.Dec.{ltb}
 use borrow.Author.Tests.{lt-ltb}
-use Rattle.std.proofs.Common.{length-take-le}
-use Rattle.std.proofs.lemmas.List.{get_or-take}
 use Rattle.nodes.specs.Sets.{node_limit}
 use Rattle.entries.specs.Entries.{half_word, host, entries}
 use Rattle.entries.specs.NamespaceSound.{is_hosted}
@@ -35,17 +33,16 @@ module _ (count size i : ℕ) (right : Bool) (ws : List ℕ) where
 pub returns-then-size-ge-NODE_LIMIT : goal.returns-then-size-ge-NODE_LIMIT
 returns-then-size-ge-NODE_LIMIT c =
     let a = c.args in
-    sym (all-hosted a.size a.count a.ns.now c.if-size-ge-NODE_LIMIT.true)
+    sym (all-hosted a.size (length a.words.now) a.words.now c.if-size-ge-NODE_LIMIT.true)
 
 pub loop-word-preserved : goal.loop-word-preserved
 loop-word-preserved c =
     let v = c.loop-word in
     let a = c.args in
-    let inside : v.word-index < a.count = omega (arith, length-take-le a.count a.ns.now c.requires) in
-    rw (c.host_of.ensures, c.pid_of.ensures, get_or-take a.count a.ns.now v.word-index 0) (turn a.count a.size v.word-index v.right a.ns.now inside (omega arith) ∙ v.invariant)
+    rw (c.host_of.ensures, c.pid_of.ensures) (turn (length a.words.now) a.size v.word-index v.right a.words.now (omega arith) (omega arith) ∙ v.invariant)
 
 pub returns : goal.returns
 returns c =
     let v = c.loop-word in
     let a = c.args in
-    sym (ends a.count a.size v.word-index v.right a.ns.now (omega (arith, length-take-le a.count a.ns.now c.requires))) ∙ v.invariant
+    sym (ends (length a.words.now) a.size v.word-index v.right a.words.now (omega arith)) ∙ v.invariant

@@ -8,6 +8,7 @@ use Rattle.std.proofs.Math.Bool.{and_assoc, and_comm}
 use Rattle.entries.specs.Entries.{entries}
 use Rattle.entries.specs.NamespaceSound.{is_ascending, is_distinct, is_hosted, sound_entries, all_zero, sound_words}
 use Rattle.entries.specs.Storage.{length-entries}
+use Rattle.search.specs.Used.{entries-used}
 use Rattle.namespace_test.proofs.is_sound.Goals as goal
 use Rattle.namespace_test.proofs.is_sound.Goals.{then-ns-count-via-then-ns-count, then-ns-count-via-else-ns-count+then-not-all_zero, then-ns-count-via-else-ns-count+else-not-all_zero+then-not-hosted}
 
@@ -39,10 +40,10 @@ returns-then-ns-count c =
       | then-ns-count-via-else-ns-count+then-not-all_zero w ↦
           parts a.size a.count a.ns.now w.if-ns-count.false false _ _ (sym w.if-not-all_zero.true ∙ w.all_zero.ensures) refl refl
       | then-ns-count-via-else-ns-count+else-not-all_zero+then-not-hosted w ↦
-          parts a.size a.count a.ns.now w.if-ns-count.false true false _ (sym w.if-not-all_zero.false ∙ w.all_zero.ensures) (sym w.if-not-hosted.true ∙ w.hosted.ensures) refl
+          parts a.size a.count a.ns.now w.if-ns-count.false true false _ (sym w.if-not-all_zero.false ∙ w.all_zero.ensures) (rw (entries-used a.count a.ns.now w.if-ns-count.false) at (sym w.if-not-hosted.true ∙ w.hosted.ensures)) refl
     ]
 
 pub returns : goal.returns
 returns c =
     let a = c.args in
-    parts a.size a.count a.ns.now c.if-ns-count.false true true c.stamped.result (sym c.if-not-all_zero.false ∙ c.all_zero.ensures) (sym c.if-not-hosted.false ∙ c.hosted.ensures) c.stamped.ensures
+    parts a.size a.count a.ns.now c.if-ns-count.false true true c.stamped.result (sym c.if-not-all_zero.false ∙ c.all_zero.ensures) (rw (entries-used a.count a.ns.now c.if-ns-count.false) at (sym c.if-not-hosted.false ∙ c.hosted.ensures)) (rw (entries-used a.count a.ns.now c.if-ns-count.false) at c.stamped.ensures)

@@ -29,20 +29,20 @@ module _ {ws : List ℕ} {count stamp i last : ℕ} {seen : List ℕ} (r : Reach
 pub returns-then-not-is_plain-2 : goal.returns-then-not-is_plain-2
 returns-then-not-is_plain-2 c =
     let a : Plain c.args.ns.now c.args.stamp c.loop-i.i c.loop-i.last c.loop-i.seen c.name_of.result c.is_plain.new.seen = record { right = sym c.is_plain.ensures.value ∙ c.if-not-is_plain.false; stamps = c.is_plain.ensures.seen_after; named = c.name_of.ensures } in
-    (omega arith, passed-still (one c.loop-i.invariant.1 c.requires.0 (omega arith) (λ k. omega (arith, c.type_inv.ns k)) a).1 _ _ c.is_plain-in-loop-i.ensures.seen_after)
+    (omega arith, passed-still (one c.loop-i.invariant.1 (omega arith) (omega arith) (λ k. omega (arith, c.type_inv.ns k)) a).1 _ _ c.is_plain-in-loop-i.ensures.seen_after)
 
 pub returns-then-not-is_plain-3 : goal.returns-then-not-is_plain-3
 returns-then-not-is_plain-3 c =
     let a : Plain c.args.ns.now c.args.stamp c.loop-i.i c.loop-i.last c.loop-i.seen c.name_of.result c.is_plain.new.seen = record { right = sym c.is_plain.ensures.value ∙ c.if-not-is_plain.false; stamps = c.is_plain.ensures.seen_after; named = c.name_of.ensures } in
     let b : Plain c.args.ns.now c.args.stamp (c.loop-i.i + 1) c.name_of.result c.is_plain.new.seen c.name_of-in-loop-i.result c.is_plain-in-loop-i.new.seen = record { right = sym c.is_plain-in-loop-i.ensures.value ∙ c.if-not-is_plain-2.false; stamps = c.is_plain-in-loop-i.ensures.seen_after; named = c.name_of-in-loop-i.ensures } in
-    (omega arith, passed-still (two c.loop-i.invariant.1 c.requires.0 (omega arith) (λ k. omega (arith, c.type_inv.ns k)) a b).1 _ _ c.is_plain-in-loop-i-2.ensures.seen_after)
+    (omega arith, passed-still (two c.loop-i.invariant.1 (omega arith) (omega arith) (λ k. omega (arith, c.type_inv.ns k)) a b).1 _ _ c.is_plain-in-loop-i-2.ensures.seen_after)
 
 pub returns-then-not-is_plain-4 : goal.returns-then-not-is_plain-4
 returns-then-not-is_plain-4 c =
     let a : Plain c.args.ns.now c.args.stamp c.loop-i.i c.loop-i.last c.loop-i.seen c.name_of.result c.is_plain.new.seen = record { right = sym c.is_plain.ensures.value ∙ c.if-not-is_plain.false; stamps = c.is_plain.ensures.seen_after; named = c.name_of.ensures } in
     let b : Plain c.args.ns.now c.args.stamp (c.loop-i.i + 1) c.name_of.result c.is_plain.new.seen c.name_of-in-loop-i.result c.is_plain-in-loop-i.new.seen = record { right = sym c.is_plain-in-loop-i.ensures.value ∙ c.if-not-is_plain-2.false; stamps = c.is_plain-in-loop-i.ensures.seen_after; named = c.name_of-in-loop-i.ensures } in
     let d : Plain c.args.ns.now c.args.stamp (c.loop-i.i + 2) c.name_of-in-loop-i.result c.is_plain-in-loop-i.new.seen c.name_of-in-loop-i-2.result c.is_plain-in-loop-i-2.new.seen = record { right = sym c.is_plain-in-loop-i-2.ensures.value ∙ c.if-not-is_plain-3.false; stamps = c.is_plain-in-loop-i-2.ensures.seen_after; named = c.name_of-in-loop-i-2.ensures } in
-    (omega arith, passed-still (three c.loop-i.invariant.1 c.requires.0 (omega arith) (λ k. omega (arith, c.type_inv.ns k)) a b d).1 _ _ c.is_plain-in-loop-i-3.ensures.seen_after)
+    (omega arith, passed-still (three c.loop-i.invariant.1 (omega arith) (omega arith) (λ k. omega (arith, c.type_inv.ns k)) a b d).1 _ _ c.is_plain-in-loop-i-3.ensures.seen_after)
 
 pub loop-i-preserved : goal.loop-i-preserved
 loop-i-preserved c =
@@ -50,4 +50,4 @@ loop-i-preserved c =
     let b : Plain c.args.ns.now c.args.stamp (c.loop-i.i + 1) c.name_of.result c.is_plain.new.seen c.name_of-in-loop-i.result c.is_plain-in-loop-i.new.seen = record { right = sym c.is_plain-in-loop-i.ensures.value ∙ c.if-not-is_plain-2.false; stamps = c.is_plain-in-loop-i.ensures.seen_after; named = c.name_of-in-loop-i.ensures } in
     let d : Plain c.args.ns.now c.args.stamp (c.loop-i.i + 2) c.name_of-in-loop-i.result c.is_plain-in-loop-i.new.seen c.name_of-in-loop-i-2.result c.is_plain-in-loop-i-2.new.seen = record { right = sym c.is_plain-in-loop-i-2.ensures.value ∙ c.if-not-is_plain-3.false; stamps = c.is_plain-in-loop-i-2.ensures.seen_after; named = c.name_of-in-loop-i-2.ensures } in
     let e : Plain c.args.ns.now c.args.stamp (c.loop-i.i + 3) c.name_of-in-loop-i-2.result c.is_plain-in-loop-i-2.new.seen c.name_of-last.result c.is_plain-in-loop-i-3.new.seen = record { right = sym c.is_plain-in-loop-i-3.ensures.value ∙ c.if-not-is_plain-4.false; stamps = c.is_plain-in-loop-i-3.ensures.seen_after; named = c.name_of-last.ensures } in
-    (omega arith, four c.loop-i.invariant.1 c.requires.0 (omega arith) (λ k. omega (arith, c.type_inv.ns k)) a b d e)
+    (omega arith, four c.loop-i.invariant.1 (omega arith) (omega arith) (λ k. omega (arith, c.type_inv.ns k)) a b d e)

@@ -24,7 +24,7 @@ loop-word-preserved-then-has c =
     let v = c.loop-word in
     let a = c.args in
     let turn = zip_turn a.contents.now a.members.now v.yielded c.into_iter-word-iterator.result v.word-iterator c.next.new.self c.next.result (search rules) (search rules) v.yielded_by _ c.in-Some.is c.next.ensures.steps in
-    written a.node a.contents.now a.members.now turn a.out.now c.requires v.at v.out v.invariant v.auto.out (length-append v.yielded ((c.in-Some.word, c.in-Some.set) ∷ [])) (sym c.has.ensures ∙ c.if-has.true)
+    rw c.group_name.ensures (written a.node a.contents.now a.members.now turn a.out.now c.requires v.at v.out v.invariant v.auto.out (length-append v.yielded ((c.in-Some.word, c.in-Some.set) ∷ [])) (sym c.has.ensures ∙ c.if-has.true))
 
 pub loop-word-preserved : goal.loop-word-preserved
 loop-word-preserved c =

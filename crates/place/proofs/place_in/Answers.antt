@@ -32,11 +32,11 @@ module _ (ws : List ℕ) (s i : ℕ) where
 
 pub returns-then-other-name : goal.returns-then-other-name
 returns-then-other-name c =
-    sym (c.loop-i.invariant ∙ hit c.args.contents.now c.args.s c.loop-i.i c.loop-i-test.true c.if-other-name.true)
+    sym (c.loop-i.invariant ∙ hit c.args.contents.now c.args.s c.loop-i.i c.loop-i-test.true (sym c.group_name-other.ensures ∙ c.if-other-name.true))
 
 pub returns-else-other-name : goal.returns-else-other-name
 returns-else-other-name c =
-    sym (c.loop-i.invariant ∙ over c.args.contents.now c.args.s c.loop-i.i c.loop-i-test.true c.if-name-other.true c.if-other-name.false)
+    sym (c.loop-i.invariant ∙ over c.args.contents.now c.args.s c.loop-i.i c.loop-i-test.true (omega arith) (rw c.group_name-other.ensures at c.if-other-name.false))
 
 pub loop-i-preserved : goal.loop-i-preserved
 loop-i-preserved c =

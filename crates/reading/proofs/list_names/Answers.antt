@@ -1,8 +1,5 @@
 -- `reading::list_names` meets its contract: the words of the s_group are those of its names, and their list is written where the run has room.
 -- Assumes nothing.
-use mathlib.Core.Path.{refl}
-use Prim.Native.Nat.{◌+◌, ◌*◌}
-use Rattle.semantics.specs.Sizes.{names_per_group, bodies_at}
 use Rattle.returns.specs.Listing.{list-told, list-short}
 use Rattle.reading.proofs.list_names.Goals as goal
 
@@ -10,12 +7,12 @@ pub returns-in-Ok : goal.returns-in-Ok
 returns-in-Ok c =
     let a = c.args in
     λ st l w.
-    rw c.done.ensures (list-told l a.at w (bodies_at + names_per_group * a.at) (bodies_at + names_per_group * a.at + names_per_group) refl refl a.s c.names_count-count.result c.names_count-count.ensures a.out.now
+    rw c.done.ensures (list-told l a.g.at w c.names.result.now c.names.ensures a.s c.count.result c.count.ensures a.out.now
     c.list_names.result c.list_names.new.out c.list_names.ensures.value c.list_names.ensures.out_after c.in-Ok.is)
 
 pub returns-in-Err : goal.returns-in-Err
 returns-in-Err c =
     let a = c.args in
     λ st l w.
-    rw c.refused.ensures (list-short l a.at w (bodies_at + names_per_group * a.at) (bodies_at + names_per_group * a.at + names_per_group) refl refl a.s c.names_count-count.result c.names_count-count.ensures a.out.now
+    rw c.refused.ensures (list-short l a.g.at w c.names.result.now c.names.ensures a.s c.count.result c.count.ensures a.out.now
     c.list_names.result c.list_names.new.out c.list_names.ensures.value c.list_names.ensures.out_after c.in-Err.is)

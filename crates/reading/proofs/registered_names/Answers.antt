@@ -14,9 +14,9 @@ returns-in-Err c =
     let t = c.args.t.words.now in
     rw c.refused.ensures (lists-refused t c.args.t.fit c.args.out.now (step-names (length c.args.out.now) c.args.caller (here t) c.args.s) (rw c.size.ensures.value at c.check_group.ensures) c.in-Err.is)
 
-pub list_names-requires : goal.list_names-requires
-list_names-requires c =
-    record { t_len = c.args.t.sized; at_lt_group_limit = open-below c.args.t.words.now c.args.t.fit ((opened c.args.t.words.now c.args.t.fit c.args.caller c.args.s c.place_for.result c.place_for.ensures c.in-Ok.is)) }
+pub invariant_of-list_names-clause-below : goal.invariant_of-list_names-clause-below
+invariant_of-list_names-clause-below c =
+    open-below c.args.t.words.now c.args.t.fit ((opened c.args.t.words.now c.args.t.fit c.args.caller c.args.s c.place_for.result c.place_for.ensures c.in-Ok.is))
 
 pub returns-in-Ok : goal.returns-in-Ok
 unfolding state_of

@@ -10,7 +10,7 @@ use lib.ListN.{length}
 use Rattle.semantics.specs.Sizes.{group_limit, bodies_at, table_words}
 use Rattle.free_test.specs.WireTests.{all_zero}
 use Rattle.groups_test.specs.GroupTests.{part}
-use Rattle.groups_test.specs.GroupsBelow.{bodies-before, body-within}
+use Rattle.groups_test.specs.GroupsBelow.{bodies-before, body-within, lent-part}
 use Rattle.table.specs.TestMeaning.{zero-none, zero-split}
 use Rattle.table.proofs.bodies_zero.Goals as goal
 
@@ -28,17 +28,19 @@ more cap g i t long few l x ex y ey =
 
 pub loop-i-init : goal.loop-i-init
 loop-i-init c =
-    let a = c.args in
-    sym (zero-none a.t.now (bodies_at + a.cap * a.g) (omega (arith, c.requires.0, bodies-before a.cap a.g c.requires.1)))
+    let t = c.args.t in
+    sym (zero-none t.words.now (bodies_at + t.cap * t.count) (omega (arith, bodies-before t.cap t.count t.few)))
 
 pub loop-i-preserved : goal.loop-i-preserved
 loop-i-preserved c =
     let v = c.loop-i in
-    let a = c.args in
-    more a.cap a.g v.i a.t.now c.requires.0 (omega arith) (omega arith) v.right v.invariant c.all_zero-right.result c.all_zero-right.ensures
+    let t = c.args.t in
+    more t.cap t.count v.i t.words.now t.long (omega arith) (omega arith) v.right v.invariant c.all_zero-right.result
+    (c.all_zero-right.ensures ∙ ap all_zero (c.body.ensures ∙ sym (lent-part (bodies_at + t.cap * v.i) t.cap t.words.now)))
 
 pub returns : goal.returns
 returns c =
     let v = c.loop-i in
-    let a = c.args in
-    v.invariant ∙ ap (λ (n : ℕ). all_zero (part a.t.now (bodies_at + a.cap * a.g) (bodies_at + n))) (ap (λ (n : ℕ). a.cap * n) (omega arith) ∙ mul_comm a.cap group_limit)
+    let t = c.args.t in
+    v.invariant
+    ∙ ap (λ (n : ℕ). all_zero (part t.words.now (bodies_at + t.cap * t.count) (bodies_at + n))) (ap (λ (n : ℕ). t.cap * n) (omega arith) ∙ mul_comm t.cap group_limit)

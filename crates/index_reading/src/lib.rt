@@ -9,9 +9,10 @@ ghost use Rattle.indexes.specs.Flat.{read_rows};
 ghost use Rattle.indexes.specs.IndexCalls.{read};
 
 use answers::{Answer, Reason, Value, done, refused};
-use entries::{HALF_WORD, PIDS_PER_HOST};
+use entries::host_of;
 use index_rows::rank;
 use index_test::names_total;
+use indexes::{group_of, key_of};
 use layout::{GROUP_NAMES, ROW_WORDS};
 use sound_table::SoundTable;
 
@@ -24,7 +25,7 @@ fn list_rows(index: &[u64], from: usize, many: usize, out: &mut [u64])
     for k in 0..many {
         let row = ROW_WORDS * (from + k);
         let at = ROW_WORDS * k;
-        out[at] = index[row] % HALF_WORD;
+        out[at] = group_of(index[row]) as u64;
         out[at + 1] = index[row + 1];
     }
 }
@@ -35,11 +36,11 @@ pub fn names_of(t: SoundTable<'_>, index: &[u64], p: u32, out: &mut [u64]) -> An
     ensures value { result ≡ (read (length out.old) p t.entry.words.now index.now).answer }
     ensures out_after { out.new ≡ listed_over (read (length out.old) p t.entry.words.now index.now).list out.old }
 {
-    if t.size() <= p / PIDS_PER_HOST {
+    if t.size() <= host_of(p) {
         return refused(Reason::NodeUnknown);
     }
     let count = names_total(t);
-    let key = (p as u64) * HALF_WORD;
+    let key = key_of(p, 0);
     let from = rank(index, count, key);
     let many = rank(index, count, key + GROUP_NAMES) - from;
     let words = ROW_WORDS * many;

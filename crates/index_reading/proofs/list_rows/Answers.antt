@@ -15,4 +15,4 @@ pub loop-k-preserved : goal.loop-k-preserved
 loop-k-preserved c =
     let l = c.loop-k in
     let a = c.args in
-    record { long = simp (length-set, length-set) l.invariant.long; listed = list-row a.index.now a.from a.out.now l.k l.out (omega arith) (omega arith) l.invariant.listed }
+    record { long = simp (length-set, length-set) l.invariant.long; listed = rw c.group_of.ensures (list-row a.index.now a.from a.out.now l.k l.out (omega arith) (omega arith) l.invariant.listed) }

@@ -15,19 +15,25 @@ returns-then-key-last c =
     sym (c.loop-k.invariant ∙ wrong-key c.args.index.now c.args.count c.requires.count_in_bounds _ c.loop-k.last c.loop-k.k c.loop-k-test.true c.if-key-last.true)
 
 pub returns-then-name-eq0 : goal.returns-then-name-eq0
-returns-then-name-eq0 c = (let the : false ≡ all_right 0 (read_rows c.args.count c.args.index.now) (walk (here c.args.t.words.now).groups) = sym (c.loop-k.invariant ∙ wrong_row c.args.index.now c.args.count c.requires.count_in_bounds _ c.loop-k.last c.loop-k.k c.loop-k-test.true (unnamed c.args.t.words.now c.args.t.fit _ (λ a b. omega arith))) in the)
+returns-then-name-eq0 c =
+    let name = c.in-Ok.ensures.1 in
+    sym (c.loop-k.invariant ∙ wrong_row c.args.index.now c.args.count c.requires.count_in_bounds _ c.loop-k.last c.loop-k.k c.loop-k-test.true (unnamed c.args.t.words.now c.args.t.fit _ (λ a b. omega (arith, name))))
 
-pub returns-then-name-ge-HALF_WORD : goal.returns-then-name-ge-HALF_WORD
-returns-then-name-ge-HALF_WORD c = (let the : false ≡ all_right 0 (read_rows c.args.count c.args.index.now) (walk (here c.args.t.words.now).groups) = sym (c.loop-k.invariant ∙ wrong_row c.args.index.now c.args.count c.requires.count_in_bounds _ c.loop-k.last c.loop-k.k c.loop-k-test.true (unnamed c.args.t.words.now c.args.t.fit _ (λ a b. omega arith))) in the)
+pub returns-in_default : goal.returns-in_default
+returns-in_default c =
+    sym (c.loop-k.invariant ∙ wrong_row c.args.index.now c.args.count c.requires.count_in_bounds _ c.loop-k.last c.loop-k.k c.loop-k-test.true (unnamed c.args.t.words.now c.args.t.fit _ (λ a b. c.in_default.ensures b)))
 
 pub returns-then-not-has_row : goal.returns-then-not-has_row
-returns-then-not-has_row c = (let the : false ≡ all_right 0 (read_rows c.args.count c.args.index.now) (walk (here c.args.t.words.now).groups) = sym (c.loop-k.invariant ∙ wrong_row c.args.index.now c.args.count c.requires.count_in_bounds _ c.loop-k.last c.loop-k.k c.loop-k-test.true (sym c.has_row.ensures ∙ c.if-not-has_row.true)) in the)
+returns-then-not-has_row c =
+    let name = c.in-Ok.ensures.1 in
+    sym (c.loop-k.invariant ∙ wrong_row c.args.index.now c.args.count c.requires.count_in_bounds _ c.loop-k.last c.loop-k.k c.loop-k-test.true (rw name at (sym c.has_row.ensures ∙ c.if-not-has_row.true)))
 
 pub loop-k-preserved : goal.loop-k-preserved
 loop-k-preserved c =
+    let name = c.in-Ok.ensures.1 in
     c.loop-k.invariant
     ∙ right-row c.args.index.now c.args.count c.requires.count_in_bounds _ c.loop-k.last c.loop-k.k c.loop-k-test.true c.if-key-last.false
-    (sym c.has_row.ensures ∙ c.if-not-has_row.false)
+    (rw name at (sym c.has_row.ensures ∙ c.if-not-has_row.false))
 
 pub returns : goal.returns
 returns c =

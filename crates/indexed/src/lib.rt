@@ -123,6 +123,7 @@ pub fn names_of(table: &[u64], index: &[u64], p: u32, out: &mut [u64]) -> Answer
 }
 
 // ---- the commands that only read: a caller may hold a table that it cannot lend for writing, as a const one of C
+// Each tests table and index by itself, for the reason that stands at those of `sgroup`.
 
 // The names of the s_group, listed in the run.
 pub fn registered_names(

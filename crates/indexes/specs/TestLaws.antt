@@ -115,24 +115,3 @@ sorted-held xs ws s d n h =
 -- rows are held when sorted
 pub held-sorted : (ws : List Row) → all_held (sorted ws) ws ≡ true
 held-sorted ws = sym (all_held-sorted (sorted ws) ws) ∙ all_held-own (sorted ws)
-
--- ---- rows read one by one
-
--- the row at k in the words
-abbrev pub row_in : ℕ → List ℕ → Row
-row_in k ws = record { key = get_or ws (row_words * k) 0; name = get_or ws (row_words * k + 1) 0 }
-
--- the rows from k on
-abbrev pub rows_from : ℕ → ℕ → List ℕ → List Row
-rows_from k n ws = read_rows (n - k) (drop (row_words * k) ws)
-
-pub rows_next : (k n : ℕ) (ws : List ℕ) → k < n → row_words * n ≤ length ws → rows_from k n ws ≡ row_in k ws ∷ rows_from (k + 1) n ws
-unfolding read_rows
-rows_next k n ws h l =
-    let left : n - k ≡ suc (n - (k + 1)) = omega arith in
-    let on : row_words * (k + 1) ≡ suc (suc (row_words * k)) = omega arith in
-    rw (left, on, drop-cons ws (row_words * k) 0 (omega arith), drop-cons ws (suc (row_words * k)) 0 (omega arith), add-one (row_words * k))
-
-pub rows_none : (k n : ℕ) (ws : List ℕ) → n ≤ k → rows_from k n ws ≡ []
-unfolding read_rows
-rows_none k n ws h = let none : n - k ≡ 0 = omega arith in rw none

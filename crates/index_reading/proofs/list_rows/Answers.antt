@@ -16,9 +16,3 @@ loop-k-preserved c =
     let l = c.loop-k in
     let a = c.args in
     record { long = simp (length-set, length-set) l.invariant.long; listed = rw c.group_of.ensures (list-row a.rows.now a.out.now l.k l.out (omega arith) (omega arith) l.invariant.listed) }
-
-pub returns : goal.returns
-returns c =
-    let rs = c.args.rows.now in
-    let last : c.loop-k.k ≡ length rs = omega arith in
-    c.loop-k.invariant.listed ∙ rw (last, take_all (length rs) rs (omega arith))

@@ -1,7 +1,7 @@
 -- Reading by pid in the index of a sound table: where the rows of the pid stand, and which answer is given. Assumes nothing.
-use Rattle.std.specs.Prelude.{◌≡◌, false, List, ◌++◌, ℕ, ◌+◌, ◌-◌, ◌*◌, ◌≤◌, ◌<◌, leb, length, drop}
+use Rattle.std.specs.Prelude.{◌≡◌, false, List, ◌++◌, ℕ, ◌-◌, ◌*◌, ◌≤◌, ◌<◌, leb, length, drop}
 use Rattle.std.proofs.Math.Path.{sym, ap}
-use Rattle.std.proofs.Common.{◌∙◌, subst, append_assoc, arith, take-append-drop}
+use Rattle.std.proofs.Common.{◌∙◌, arith}
 use Rattle.std.proofs.Math.Dec.{eqb}
 use Rattle.std.proofs.Math.ListN.{take, length-drop}
 use Rattle.std.proofs.lemmas.List.{length-map, take-map, drop-map}
@@ -19,7 +19,7 @@ use Rattle.semantics.specs.WordsOfState.{size_is}
 use Rattle.semantics.specs.FirstReason.{Test, first}
 use Rattle.semantics.proofs.Agree.{test-regular, test-laid}
 use Rattle.semantics.specs.Call.{refused}
-use Rattle.indexes.specs.Index.{Row, key_of, pid_of, walk, sorted, flat, keep, named, index_of_table, names_of}
+use Rattle.indexes.specs.Index.{Row, key_of, pid_of, walk, sorted, keep, named, index_of_table, names_of}
 use Rattle.indexes.specs.Ascending.{Ascending, rank}
 use Rattle.indexes.specs.Sorting.{rank-le, pid-ranks, keep-pid}
 use Rattle.indexes.specs.Flat.{length-named, read_rows}

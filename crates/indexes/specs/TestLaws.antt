@@ -1,18 +1,18 @@
 -- Rows compared with a walk: which it holds, by s_group and by name; ascending rows that are all held and as many; and rows read off words one by one.
 -- Assumes nothing.
 use Rattle.std.proofs.Math.Path.{◌≡◌, refl}
-use Rattle.std.proofs.Common.{sym, ◌∙◌, add-one, arith, drop-cons, eq-eqb, ne_eqb, eqb-true}
+use Rattle.std.proofs.Common.{sym, ◌∙◌, arith, eq-eqb, ne_eqb, eqb-true}
 use Rattle.std.proofs.Math.Logic.{⊎_elim}
-use Rattle.std.specs.Prelude.{true, false, ◌&&◌, ◌||◌, eqb, length, get_or, drop}
+use Rattle.std.specs.Prelude.{true, false, ◌&&◌, ◌||◌, eqb, length}
 use Rattle.std.proofs.lemmas.Bool.{false≢true}
 use Rattle.std.proofs.Math.Bool.{or-false, or_assoc, and-eq-true_iff}
 use Rattle.std.proofs.Math.Option.{none, some}
 use mathlib.Core.List.{List, [], ◌∷◌, ◌++◌}
-use Prim.Native.Nat.{ℕ, zero, suc, ◌+◌, ◌-◌, ◌*◌, ◌≤◌, ◌<◌}
+use Prim.Native.Nat.{ℕ, zero, suc, ◌≤◌, ◌<◌}
 use Rattle.nodes.specs.Bools.{by_eq}
 use Rattle.entries.specs.Entries.{Entry, half_word}
 use Rattle.entries.specs.NamespaceSound as Namespace
-use Rattle.semantics.specs.Sizes.{group_names, row_words}
+use Rattle.semantics.specs.Sizes.{group_names}
 use Rattle.semantics.specs.State.{Group, find}
 use Rattle.semantics.specs.Regular.{Every, Rising, RegularGroup}
 use Rattle.semantics.specs.Truth.{or_cases}
@@ -20,7 +20,6 @@ use Rattle.semantics.specs.Places.{group_at, rising-iff}
 use Rattle.indexes.specs.Index.{Row, key_of, group_of, rows, walk, sorted}
 use Rattle.indexes.specs.Ascending.{Ascending, Distinct, holds, all_held}
 use Rattle.indexes.specs.Sorting.{length-sorted, holds_key-low, sorted-ascending, holds-put_in, sorted-holds, sorted-is}
-use Rattle.indexes.specs.Flat.{read_rows}
 
 -- ---- which rows a walk holds
 

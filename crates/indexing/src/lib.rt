@@ -54,10 +54,7 @@ fn update_of(t: SoundTable<'_>, command: Command) -> Option<Update>
         Command::ReRegisterName { s, n, p } => Some(moved(find_in(t, s, n), s, n, p)),
         Command::UnregisterName { s, n } => taken(find_in(t, s, n), s),
         Command::RemoveNodes { s, set } => Some(Update::Gone(s, leaving(t, s, set))),
-        Command::DeleteSGroup { s } => Some(Update::Gone(
-            s,
-            nodes::roster(nodes::NODE_LIMIT),
-        )),
+        Command::DeleteSGroup { s } => Some(Update::Gone(s, nodes::roster(nodes::NODE_LIMIT))),
         _ => None,
     }
 }

@@ -1,6 +1,5 @@
 -- `index_reading::list_rows` meets its contract. The loop's invariant: the first k rows are listed. Assumes nothing.
-use mathlib.Core.Path.{◌≡◌, refl, ◌∙◌}
-use Rattle.std.proofs.Common.{take_all, length}
+use mathlib.Core.Path.{refl}
 use native.Mathlib.Omega.{arith}
 use lib.ListN.{length-set}
 use Rattle.indexes.specs.Index.{named}

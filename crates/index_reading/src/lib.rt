@@ -5,27 +5,26 @@ ghost use Rattle.std.specs.Prelude.{◌≡◌, ◌++◌, ◌+◌, ◌*◌, ◌�
 ghost use Rattle.semantics.specs.Sizes.{names_per_group, row_words};
 ghost use Rattle.semantics.specs.Call.{listed_over};
 ghost use Rattle.indexes.specs.Index.{named, index_of_table};
-ghost use Rattle.indexes.specs.Flat.{read_rows};
+ghost use Rattle.index_rows.specs.Arrays.{as_rows};
 ghost use Rattle.indexes.specs.IndexCalls.{read};
 
 use answers::{Answer, Reason, Value, done, refused};
-use entries::{HALF_WORD, PIDS_PER_HOST};
+use entries::host_of;
 use index_rows::rank;
 use index_test::names_total;
+use indexes::{group_of, key_of};
 use layout::{GROUP_NAMES, ROW_WORDS};
 use sound_table::SoundTable;
 
-// S_group and name of so many rows, from the row `from` on, to the front of the run.
-fn list_rows(index: &[u64], from: usize, many: usize, out: &mut [u64])
-    requires many_in_bounds { row_words * (from + many) ≤ length index.now }
-    requires many_in_bounds_2 { row_words * many ≤ length out.old }
-    ensures { out.new ≡ named (read_rows many (drop (row_words * from) index.now)) ++ drop (row_words * many) out.old }
+// S_group and name of each row, to the front of the run.
+fn list_rows(rows: &[[u64; ROW_WORDS]], out: &mut [u64])
+    requires { row_words * length rows.now ≤ length out.old }
+    ensures { out.new ≡ named (as_rows rows.now) ++ drop (row_words * length rows.now) out.old }
 {
-    for k in 0..many {
-        let row = ROW_WORDS * (from + k);
+    for (k, [key, name]) in rows.iter().enumerate() {
         let at = ROW_WORDS * k;
-        out[at] = index[row] % HALF_WORD;
-        out[at + 1] = index[row + 1];
+        out[at] = group_of(*key) as u64;
+        out[at + 1] = *name;
     }
 }
 
@@ -35,17 +34,18 @@ pub fn names_of(t: SoundTable<'_>, index: &[u64], p: u32, out: &mut [u64]) -> An
     ensures value { result ≡ (read (length out.old) p t.entry.words.now index.now).answer }
     ensures out_after { out.new ≡ listed_over (read (length out.old) p t.entry.words.now index.now).list out.old }
 {
-    if t.size() <= p / PIDS_PER_HOST {
+    if t.size() <= host_of(p) {
         return refused(Reason::NodeUnknown);
     }
-    let count = names_total(t);
-    let key = (p as u64) * HALF_WORD;
-    let from = rank(index, count, key);
-    let many = rank(index, count, key + GROUP_NAMES) - from;
-    let words = ROW_WORDS * many;
+    let rows = index_rows::rows(index, names_total(t));
+    let key = key_of(p, 0);
+    let from = rank(rows, key);
+    let to = rank(rows, key + GROUP_NAMES);
+    let own = &rows[from..to];
+    let words = ROW_WORDS * own.len();
     if out.len() < words {
         return refused(Reason::RunShort);
     }
-    list_rows(index, from, many, out);
+    list_rows(own, out);
     done(Value::Listed(words))
 }

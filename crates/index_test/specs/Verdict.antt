@@ -1,6 +1,6 @@
 -- What the test of an index says: of the rows from k on, row by row; and of all words. Assumes nothing.
 use Rattle.std.specs.Prelude.{◌≡◌, refl, ◌↔◌, true, false, ◌&&◌, List, [], ◌∷◌, ℕ, ◌+◌, ◌*◌, ◌≤◌, ◌<◌, ltb, length, get_or, take, drop}
-use Rattle.std.proofs.Common.{sym, ap, ◌∙◌, ⊎_elim, arith, get_or-take, ext_get_or, lt-ltb, le-ltb, ltb-true}
+use Rattle.std.proofs.Common.{sym, ap, ◌∙◌, ⊎_elim, add-one, arith, drop-cons, drop_of_length-le, get_or-take, ext_get_or, lt-ltb, le-ltb, ltb-true}
 use Rattle.std.proofs.Math.Bool.{and-false, and-eq-true_iff}
 use Rattle.std.proofs.Math.ListN.{get_or-eq_default}
 use Rattle.nodes.specs.Bools.{by_lt, test-ext}
@@ -17,32 +17,33 @@ use Rattle.indexes.specs.Sorting.{length-sorted, sorted-ascending}
 use Rattle.indexes.specs.Flat.{length-flat, read_rows, rows-read, length-read_rows, read_rows_flat}
 use Rattle.indexes.specs.WalkLaws.{walk-distinct}
 use Rattle.indexes.specs.WalkWords.{walk-fits}
-use Rattle.indexes.specs.TestLaws.{sorted-held, held-sorted, row_in, rows_from, rows_next, rows_none}
+use Rattle.indexes.specs.TestLaws.{sorted-held, held-sorted}
+use Rattle.index_rows.specs.Arrays.{as_row, as_rows}
 use Rattle.index_test.specs.Right.{all_right}
 
 -- ---- row by row
 
-module _ (index : List ℕ) (count : ℕ) (fits : row_words * count ≤ length index) (ws : List Row) (last k : ℕ) (h : k < count) where
-  first-right : all_right last (rows_from k count index) ws
-      ≡ ltb last (row_in k index).key && (holds (row_in k index) ws && all_right (row_in k index).key (rows_from (k + 1) count index) ws)
-  first-right = rw (rows_next k count index h fits)
+module _ (rs : List (List ℕ)) (ws : List Row) (last k : ℕ) (h : k < length rs) where
+  first-right : let r = as_row (get_or rs k []) in
+      all_right last (as_rows (drop k rs)) ws ≡ ltb last r.key && (holds r ws && all_right r.key (as_rows (drop (k + 1) rs)) ws)
+  first-right = rw (add-one k, drop-cons rs k [] h)
 
   -- a key that does not ascend is wrong
-  pub wrong-key : (row_in k index).key ≤ last → all_right last (rows_from k count index) ws ≡ false
-  wrong-key l = first-right ∙ rw (le-ltb last (row_in k index).key l)
+  pub wrong-key : (as_row (get_or rs k [])).key ≤ last → all_right last (as_rows (drop k rs)) ws ≡ false
+  wrong-key l = first-right ∙ rw (le-ltb last (as_row (get_or rs k [])).key l)
 
   -- and so is a row that is not held
-  pub wrong_row : holds (row_in k index) ws ≡ false → all_right last (rows_from k count index) ws ≡ false
-  wrong_row n = first-right ∙ rw n (and-false (ltb last (row_in k index).key))
+  pub wrong_row : holds (as_row (get_or rs k [])) ws ≡ false → all_right last (as_rows (drop k rs)) ws ≡ false
+  wrong_row n = first-right ∙ rw n (and-false (ltb last (as_row (get_or rs k [])).key))
 
   -- else those after it decide
-  pub right-row : last < (row_in k index).key → holds (row_in k index) ws ≡ true
-      → all_right last (rows_from k count index) ws ≡ all_right (row_in k index).key (rows_from (k + 1) count index) ws
-  right-row l n = first-right ∙ rw (lt-ltb last (row_in k index).key l, n)
+  pub right-row : last < (as_row (get_or rs k [])).key → holds (as_row (get_or rs k [])) ws ≡ true
+      → all_right last (as_rows (drop k rs)) ws ≡ all_right (as_row (get_or rs k [])).key (as_rows (drop (k + 1) rs)) ws
+  right-row l n = first-right ∙ rw (lt-ltb last (as_row (get_or rs k [])).key l, n)
 
 -- past the last row nothing is wrong
-pub all-looked-at : (index : List ℕ) (count : ℕ) (ws : List Row) (last k : ℕ) → count ≤ k → all_right last (rows_from k count index) ws ≡ true
-all-looked-at index count ws last k h = rw (rows_none k count index h)
+pub all-looked-at : (rs : List (List ℕ)) (ws : List Row) (last k : ℕ) → length rs ≤ k → all_right last (as_rows (drop k rs)) ws ≡ true
+all-looked-at rs ws last k h = rw (drop_of_length-le rs {i = k} h)
 
 -- ---- all rows
 

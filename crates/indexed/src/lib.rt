@@ -1,4 +1,5 @@
 // Calls on a table with an index beside it: opening and the fifteen commands, which keep it, reading by pid, and writing the index of a table that has none.
+// Table and index come apart, as C gives them, and neither is known to be one before it is tested.
 #![tactic(auto)]
 
 ghost use Rattle.std.specs.Prelude.{◌≡◌, List, ℕ, length};
@@ -123,6 +124,7 @@ pub fn names_of(table: &[u64], index: &[u64], p: u32, out: &mut [u64]) -> Answer
 }
 
 // ---- the commands that only read: a caller may hold a table that it cannot lend for writing, as a const one of C
+// Each tests table and index by itself, and takes its arguments side by side, for the reasons that stand at those of `sgroup`.
 
 // The names of the s_group, listed in the run.
 pub fn registered_names(

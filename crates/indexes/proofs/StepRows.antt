@@ -1,10 +1,10 @@
 -- What a step makes of the rows of all registered names, ascending: the update of its command where it is done, and nothing otherwise.
 -- Assumes nothing.
-use Rattle.std.specs.Prelude.{◌≡◌, refl, Bool, true, false, not, ◌&&◌, ◌||◌, cond, List, [], ℕ, ◌*◌, ◌≤◌, eqb, leb, ltb, length}
+use Rattle.std.proofs.Math.Option as maybe
+use Rattle.std.specs.Prelude.{◌≡◌, refl, Bool, true, false, not, ◌&&◌, ◌||◌, cond, List, [], ℕ, ◌*◌, ◌≤◌, eqb, leb, ltb, length, Option, Some, None}
 use Rattle.std.proofs.Math.Path.{ap}
 use Rattle.std.proofs.Common.{◌∙◌, ⊎_elim}
 use Rattle.std.proofs.lemmas.Bool.{false≢true}
-use Rattle.std.proofs.Math.Option.{Option, none, some}
 use Rattle.nodes.specs.Sets.{has, empty, union, inter, diff, beyond}
 use Rattle.nodes.specs.Bools.{by_test}
 use Rattle.entries.specs.Entries.{host, insert, remove, lookup, holds_pid}
@@ -27,7 +27,6 @@ use Rattle.indexes.specs.Sorting.{sorted-keep}
 use Rattle.indexes.specs.WalkLaws.{length-walk-fits, walk-distinct, walk-members, walk-remove, walk-hosted, walk-drop, walk-insert, walk_more, walk-add}
 use Rattle.indexes.specs.Updates.{differs, stays, everywhere, leaving, moved, taken, updated, update_of}
 use Rattle.indexes.specs.declared.Update.{Update}
-use Rattle.indexes.specs.declared.Update.TheVariants.{Nothing}
 
 -- the rows of s_groups, ascending
 abbrev rows_in : List Group → List Row
@@ -39,25 +38,25 @@ rows_in gs = sorted (walk gs)
 kept-rows : {st : State} → Regular names_per_group st → (p : Row → Bool) {xs : List Row} → xs ≡ keep p (walk st.groups) → sorted xs ≡ keep p (rows_in st.groups)
 kept-rows {st} w p e = ap sorted e ∙ sorted-keep p (walk st.groups) (walk-distinct names_per_group st w)
 
-module _ {st : State} (w : Regular names_per_group st) (s : ℕ) (g : Group) (f : find s st.groups ≡ some g) where
+module _ {st : State} (w : Regular names_per_group st) (s : ℕ) (g : Group) (f : find s st.groups ≡ maybe.some g) where
   -- the name n registered anew, with the pid p
-  moved-rows : (n p : ℕ) → holds_pid p g.names ≡ false → (o : Option ℕ) → lookup n g.names ≡ o
-      → rows_in (put s g.members (insert (record { name = n; pid = p }) (remove n g.names)) st.groups) ≡ updated (moved s n p o) (rows_in st.groups)
+  moved-rows : (n p : ℕ) → holds_pid p g.names ≡ false → (o : maybe.Option ℕ) → lookup n g.names ≡ o
+      → rows_in (put s g.members (insert (record { name = n; pid = p }) (remove n g.names)) st.groups) ≡ updated (Some (moved s n p o)) (rows_in st.groups)
   unfolding updated
-  moved-rows n p d none h = rw (remove_absent n g.names h) (walk_more w s g f g.members (record { name = n; pid = p }) d)
-  moved-rows n p d (some q) h =
+  moved-rows n p d maybe.none h = rw (remove_absent n g.names h) (walk_more w s g f g.members (record { name = n; pid = p }) d)
+  moved-rows n p d (maybe.some q) h =
       walk-insert w s g f g.members (record { name = n; pid = p }) (remove n g.names) (fresh-remove n p g.names d)
       ∙ ap (put_in (record { key = key_of p s; name = n })) (kept-rows w (differs (key_of q s)) (walk-remove w s g f g.members n q h))
 
   -- the name n unregistered, where it is held
-  taken-rows : (n : ℕ) (o : Option ℕ) → lookup n g.names ≡ o → held o ≡ true
+  taken-rows : (n : ℕ) (o : maybe.Option ℕ) → lookup n g.names ≡ o → held o ≡ true
       → rows_in (put s g.members (remove n g.names) st.groups) ≡ updated (taken s o) (rows_in st.groups)
   unfolding updated
-  taken-rows n none h k = absurd (false≢true k)
-  taken-rows n (some q) h k = kept-rows w (differs (key_of q s)) (walk-remove w s g f g.members n q h)
+  taken-rows n maybe.none h k = absurd (false≢true k)
+  taken-rows n (maybe.some q) h k = kept-rows w (differs (key_of q s)) (walk-remove w s g f g.members n q h)
 
   -- the members in the set have left
-  left-rows : (set : ℕ) → rows_in (left_in s set g st.groups) ≡ keep (stays s (leaving set (some g))) (rows_in st.groups)
+  left-rows : (set : ℕ) → rows_in (left_in s set g st.groups) ≡ keep (stays s (leaving set (maybe.some g))) (rows_in st.groups)
   left-rows set =
       ⊎_elim
       (λ (t : empty (diff g.members set) ≡ true). rw t (kept-rows w (stays s everywhere) (walk-drop w s g f)))
@@ -68,16 +67,16 @@ module _ {st : State} (w : Regular names_per_group st) (s : ℕ) (g : Group) (f 
 -- ---- by the cases of a rule
 
 -- the result that a stands for has the rows after the update u where it is done, and else those of st
-record Follows {A : Type 0} (result : A → Result) (st : State) (u : Update) (a : A) : Type 0 where
+record Follows {A : Type 0} (result : A → Result) (st : State) (u : Option Update) (a : A) : Type 0 where
   rows : rows_in (result a).next.groups ≡ cond (eqb (number (result a).answer.reason) 0) (updated u (rows_in st.groups)) (rows_in st.groups)
 
-by-case : {A : Type 0} {result : A → Result} {st : State} {u : Update} (x : Bool) {a b : A}
+by-case : {A : Type 0} {result : A → Result} {st : State} {u : Option Update} (x : Bool) {a b : A}
     → (x ≡ true → Follows result st u a) → (x ≡ false → Follows result st u b) → Follows result st u (cond x a b)
 by-case true f g = f refl
 by-case false f g = g refl
 
 -- where nothing becomes of the rows it matters not whether it is done
-quiet : {A : Type 0} (result : A → Result) (st : State) (a : A) → rows_in (result a).next.groups ≡ rows_in st.groups → Follows result st Nothing a
+quiet : {A : Type 0} (result : A → Result) (st : State) (a : A) → rows_in (result a).next.groups ≡ rows_in st.groups → Follows result st None a
 unfolding updated
 quiet result st a e = record { rows = e ∙ either (eqb (number (result a).answer.reason) 0) }
   where
@@ -91,11 +90,11 @@ quiet result st a e = record { rows = e ∙ either (eqb (number (result a).answe
 abbrev settled : ℕ → State → Outcome → Result
 settled s st o = settle s o st
 
-by-member : (s i : ℕ) (st : State) (u : Update) (v : Value) (found : Option Group) (k : Group → Outcome)
-    → ((g : Group) → found ≡ some g → Follows (settled s st) st u (k g)) → Follows (settled s st) st u (as_member i v found k)
+by-member : (s i : ℕ) (st : State) (u : Option Update) (v : Value) (found : maybe.Option Group) (k : Group → Outcome)
+    → ((g : Group) → found ≡ maybe.some g → Follows (settled s st) st u (k g)) → Follows (settled s st) st u (as_member i v found k)
 unfolding apply
-by-member s i st u v none k h = record { rows = refl }
-by-member s i st u v (some g) k h = by-case (has g.members i) (λ e. h g refl) (λ e. record { rows = refl })
+by-member s i st u v maybe.none k h = record { rows = refl }
+by-member s i st u v (maybe.some g) k h = by-case (has g.members i) (λ e. h g refl) (λ e. record { rows = refl })
 
 follows-inside : (room i : ℕ) (c : GroupCommand) {st : State} → Regular names_per_group st
     → Follows (settled (target c) st) st (update_of (within c) st.groups) (inside room st.size (length st.groups) i c (find (target c) st.groups))
@@ -159,18 +158,18 @@ groups-connect a b st = go (eqb a b) (empty (free_of a st) || empty (free_of b s
     go false true = refl
     go false false = refl
 
-groups-sent : (i : ℕ) (found : Option ℕ) (st : State) → (send_on i found st).groups ≡ st.groups
-groups-sent i none st = refl
-groups-sent i (some p) st = groups-connect i (host p) st
+groups-sent : (i : ℕ) (found : maybe.Option ℕ) (st : State) → (send_on i found st).groups ≡ st.groups
+groups-sent i maybe.none st = refl
+groups-sent i (maybe.some p) st = groups-connect i (host p) st
 
 -- a result that leaves the s_groups
-quiet-result : (st : State) (r : Result) → r.next.groups ≡ st.groups → Follows (λ x. x) st Nothing r
+quiet-result : (st : State) (r : Result) → r.next.groups ≡ st.groups → Follows (λ x. x) st None r
 quiet-result st r e = quiet (λ x. x) st r (ap rows_in e)
 
-for-one : (i : ℕ) (st : State) (u : Update) (found : Option Group) (k : Group → Result)
-    → ((g : Group) → found ≡ some g → Follows (λ r. r) st u (k g)) → Follows (λ r. r) st u (for_member i found st k)
-for-one i st u none k h = record { rows = refl }
-for-one i st u (some g) k h = by-case (has g.members i) (λ e. h g refl) (λ e. record { rows = refl })
+for-one : (i : ℕ) (st : State) (u : Option Update) (found : maybe.Option Group) (k : Group → Result)
+    → ((g : Group) → found ≡ maybe.some g → Follows (λ r. r) st u (k g)) → Follows (λ r. r) st u (for_member i found st k)
+for-one i st u maybe.none k h = record { rows = refl }
+for-one i st u (maybe.some g) k h = by-case (has g.members i) (λ e. h g refl) (λ e. record { rows = refl })
 
 follows-rule : (room i : ℕ) (c : Command) {st : State} → Regular names_per_group st → Follows (λ r. r) st (update_of c st.groups) (rule room i c st)
 unfolding rule update_of updated become_free

@@ -1,18 +1,18 @@
 -- Rows compared with a walk: which it holds, by s_group and by name; ascending rows that are all held and as many; and rows read off words one by one.
 -- Assumes nothing.
 use Rattle.std.proofs.Math.Path.{◌≡◌, refl}
-use Rattle.std.proofs.Common.{sym, ◌∙◌, add-one, arith, drop-cons, eq-eqb, ne_eqb, eqb-true}
+use Rattle.std.proofs.Common.{sym, ◌∙◌, arith, eq-eqb, ne_eqb, eqb-true}
 use Rattle.std.proofs.Math.Logic.{⊎_elim}
-use Rattle.std.specs.Prelude.{true, false, ◌&&◌, ◌||◌, eqb, length, get_or, drop}
+use Rattle.std.specs.Prelude.{true, false, ◌&&◌, ◌||◌, eqb, length}
 use Rattle.std.proofs.lemmas.Bool.{false≢true}
 use Rattle.std.proofs.Math.Bool.{or-false, or_assoc, and-eq-true_iff}
 use Rattle.std.proofs.Math.Option.{none, some}
 use mathlib.Core.List.{List, [], ◌∷◌, ◌++◌}
-use Prim.Native.Nat.{ℕ, zero, suc, ◌+◌, ◌-◌, ◌*◌, ◌≤◌, ◌<◌}
+use Prim.Native.Nat.{ℕ, zero, suc, ◌≤◌, ◌<◌}
 use Rattle.nodes.specs.Bools.{by_eq}
 use Rattle.entries.specs.Entries.{Entry, half_word}
 use Rattle.entries.specs.NamespaceSound as Namespace
-use Rattle.semantics.specs.Sizes.{group_names, row_words}
+use Rattle.semantics.specs.Sizes.{group_names}
 use Rattle.semantics.specs.State.{Group, find}
 use Rattle.semantics.specs.Regular.{Every, Rising, RegularGroup}
 use Rattle.semantics.specs.Truth.{or_cases}
@@ -20,7 +20,6 @@ use Rattle.semantics.specs.Places.{group_at, rising-iff}
 use Rattle.indexes.specs.Index.{Row, key_of, group_of, rows, walk, sorted}
 use Rattle.indexes.specs.Ascending.{Ascending, Distinct, holds, all_held}
 use Rattle.indexes.specs.Sorting.{length-sorted, holds_key-low, sorted-ascending, holds-put_in, sorted-holds, sorted-is}
-use Rattle.indexes.specs.Flat.{read_rows}
 
 -- ---- which rows a walk holds
 
@@ -115,24 +114,3 @@ sorted-held xs ws s d n h =
 -- rows are held when sorted
 pub held-sorted : (ws : List Row) → all_held (sorted ws) ws ≡ true
 held-sorted ws = sym (all_held-sorted (sorted ws) ws) ∙ all_held-own (sorted ws)
-
--- ---- rows read one by one
-
--- the row at k in the words
-abbrev pub row_in : ℕ → List ℕ → Row
-row_in k ws = record { key = get_or ws (row_words * k) 0; name = get_or ws (row_words * k + 1) 0 }
-
--- the rows from k on
-abbrev pub rows_from : ℕ → ℕ → List ℕ → List Row
-rows_from k n ws = read_rows (n - k) (drop (row_words * k) ws)
-
-pub rows_next : (k n : ℕ) (ws : List ℕ) → k < n → row_words * n ≤ length ws → rows_from k n ws ≡ row_in k ws ∷ rows_from (k + 1) n ws
-unfolding read_rows
-rows_next k n ws h l =
-    let left : n - k ≡ suc (n - (k + 1)) = omega arith in
-    let on : row_words * (k + 1) ≡ suc (suc (row_words * k)) = omega arith in
-    rw (left, on, drop-cons ws (row_words * k) 0 (omega arith), drop-cons ws (suc (row_words * k)) 0 (omega arith), add-one (row_words * k))
-
-pub rows_none : (k n : ℕ) (ws : List ℕ) → n ≤ k → rows_from k n ws ≡ []
-unfolding read_rows
-rows_none k n ws h = let none : n - k ≡ 0 = omega arith in rw none

@@ -1,6 +1,6 @@
--- What a command does to the rows of all registered names, where it is done: one of five things. Definitions only. Assumes nothing.
-use Rattle.std.specs.Prelude.{Bool, not, ◌&&◌, cond, List, ℕ, eqb}
-use Rattle.std.proofs.Math.Option.{Option, none, some}
+-- What a command does to the rows of all registered names, where it is done: nothing, or one of four things. Definitions only. Assumes nothing.
+use Rattle.std.proofs.Math.Option as maybe
+use Rattle.std.specs.Prelude.{Bool, not, ◌&&◌, cond, List, ℕ, eqb, Option, Some, None}
 use Rattle.nodes.specs.Sets.{node_limit, has, empty, roster, inter, diff}
 use Rattle.entries.specs.Entries.{host, lookup}
 use Rattle.commands.specs.declared.Command.{Command}
@@ -8,7 +8,7 @@ use Rattle.commands.specs.declared.Command.TheVariants.{RegisterName, ReRegister
 use Rattle.semantics.specs.State.{Group, find}
 use Rattle.indexes.specs.Index.{Row, key_of, pid_of, group_of, put_in, keep}
 use Rattle.indexes.specs.declared.Update.{Update}
-use Rattle.indexes.specs.declared.Update.TheVariants.{Nothing, More, Less, Moved, Gone}
+use Rattle.indexes.specs.declared.Update.TheVariants.{More, Less, Moved, Gone}
 
 -- ---- rows that go
 
@@ -21,53 +21,53 @@ abbrev pub stays : ℕ → ℕ → Row → Bool
 stays s set x = not (eqb (group_of x) s && has set (host (pid_of x)))
 
 -- the rows after an update
-unfoldable pub updated : Update → List Row → List Row
-updated Nothing xs = xs
-updated (More k n) xs = put_in (record { key = k; name = n }) xs
-updated (Less k) xs = keep (differs k) xs
-updated (Moved j k n) xs = put_in (record { key = k; name = n }) (keep (differs j) xs)
-updated (Gone s set) xs = keep (stays s set) xs
+unfoldable pub updated : Option Update → List Row → List Row
+updated None xs = xs
+updated (Some (More k n)) xs = put_in (record { key = k; name = n }) xs
+updated (Some (Less k)) xs = keep (differs k) xs
+updated (Some (Moved j k n)) xs = put_in (record { key = k; name = n }) (keep (differs j) xs)
+updated (Some (Gone s set)) xs = keep (stays s set) xs
 
 -- ---- which update
 
 -- the pid of the name in the s_group
-abbrev pub pid_in : ℕ → Option Group → Option ℕ
-pid_in n none = none
-pid_in n (some g) = lookup n g.names
+abbrev pub pid_in : ℕ → maybe.Option Group → maybe.Option ℕ
+pid_in n maybe.none = maybe.none
+pid_in n (maybe.some g) = lookup n g.names
 
 -- a re-registration: the row of the pid that the name had moves
-abbrev pub moved : ℕ → ℕ → ℕ → Option ℕ → Update
-moved s n p none = More (key_of p s) n
-moved s n p (some q) = Moved (key_of q s) (key_of p s) n
+abbrev pub moved : ℕ → ℕ → ℕ → maybe.Option ℕ → Update
+moved s n p maybe.none = More (key_of p s) n
+moved s n p (maybe.some q) = Moved (key_of q s) (key_of p s) n
 
 -- the row of the pid that the name had goes
-abbrev pub taken : ℕ → Option ℕ → Update
-taken s none = Nothing
-taken s (some q) = Less (key_of q s)
+abbrev pub taken : ℕ → maybe.Option ℕ → Option Update
+taken s maybe.none = None
+taken s (maybe.some q) = Some (Less (key_of q s))
 
 -- every node
 abbrev pub everywhere : ℕ
 everywhere = roster node_limit
 
 -- whose names leave when the members in the set leave the s_group: theirs, or all where none is left
-abbrev pub leaving : ℕ → Option Group → ℕ
-leaving set none = 0
-leaving set (some g) = cond (empty (diff g.members set)) everywhere (inter g.members set)
+abbrev pub leaving : ℕ → maybe.Option Group → ℕ
+leaving set maybe.none = 0
+leaving set (maybe.some g) = cond (empty (diff g.members set)) everywhere (inter g.members set)
 
 -- what the command makes of the rows where it is done
-unfoldable pub update_of : Command → List Group → Update
-update_of (RegisterName s n p) gs = More (key_of p s) n
-update_of (ReRegisterName s n p) gs = moved s n p (pid_in n (find s gs))
+unfoldable pub update_of : Command → List Group → Option Update
+update_of (RegisterName s n p) gs = Some (More (key_of p s) n)
+update_of (ReRegisterName s n p) gs = Some (moved s n p (pid_in n (find s gs)))
 update_of (UnregisterName s n) gs = taken s (pid_in n (find s gs))
-update_of (RegisteredNames s) gs = Nothing
-update_of (WhereisName s n) gs = Nothing
-update_of (NewSGroup s set) gs = Nothing
-update_of (AddNodes s set) gs = Nothing
-update_of (WhereisNameAt j s n) gs = Nothing
-update_of (SendAt j s n) gs = Nothing
-update_of (Send p) gs = Nothing
-update_of (SendName s n) gs = Nothing
-update_of (RemoveNodes s set) gs = Gone s (leaving set (find s gs))
-update_of (DeleteSGroup s) gs = Gone s everywhere
-update_of OwnNodes gs = Nothing
-update_of OwnSGroups gs = Nothing
+update_of (RegisteredNames s) gs = None
+update_of (WhereisName s n) gs = None
+update_of (NewSGroup s set) gs = None
+update_of (AddNodes s set) gs = None
+update_of (WhereisNameAt j s n) gs = None
+update_of (SendAt j s n) gs = None
+update_of (Send p) gs = None
+update_of (SendName s n) gs = None
+update_of (RemoveNodes s set) gs = Some (Gone s (leaving set (find s gs)))
+update_of (DeleteSGroup s) gs = Some (Gone s everywhere)
+update_of OwnNodes gs = None
+update_of OwnSGroups gs = None

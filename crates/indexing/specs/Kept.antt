@@ -1,5 +1,5 @@
 -- The index of a sound table and that of the table after a call: its rows are updated where the command is done, and else they stay. Assumes nothing.
-use Rattle.std.specs.Prelude.{◌≡◌, Bool, true, cond, List, ℕ, ◌*◌, ◌≤◌, eqb, length}
+use Rattle.std.specs.Prelude.{◌≡◌, Bool, true, cond, List, ℕ, ◌*◌, ◌≤◌, eqb, length, Option}
 use Rattle.std.proofs.Math.Path.{sym, ap}
 use Rattle.std.proofs.Common.{◌∙◌, arith}
 use Rattle.std.proofs.Math.Bool.{false}
@@ -57,11 +57,11 @@ module _ {t x : List ℕ} (h : Paired t x) where
           ∙ ap (λ (d : Bool). cond d (updated (update_of c st.groups) (sorted (all_rows t))) (sorted (all_rows t))) e
 
       -- after a command that is done the updated rows are the index of the table
-      pub index-done : is_done a.reason ≡ true → {count : ℕ} {u : Update} → count ≡ length (all_rows t) → u ≡ update_of c st.groups → {y : List ℕ}
+      pub index-done : is_done a.reason ≡ true → {count : ℕ} {u : Option Update} → count ≡ length (all_rows t) → u ≡ update_of c st.groups → {y : List ℕ}
           → ((xs : List Row) → Fills count xs x → row_words * length (updated u xs) ≤ length x → y ≡ laid (length x) (updated u xs))
           → y ≡ index_of_table names_per_group (call room i c t).table
       index-done z {count} {u} many is {y} l =
-          let e : sorted (walk next.groups) ≡ updated u (sorted (all_rows t)) = rows z ∙ ap (λ (v : Update). updated v (sorted (all_rows t))) (sym is) in
+          let e : sorted (walk next.groups) ≡ updated u (sorted (all_rows t)) = rows z ∙ ap (λ (v : Option Update). updated v (sorted (all_rows t))) (sym is) in
           let roomy : row_words * length (updated u (sorted (all_rows t))) ≤ length x =
           omega (arith, index-long h, ap length e, length-sorted (walk next.groups), step_count room i c st regular fits) in
           l (sorted (all_rows t)) (index-fills h count many) roomy ∙ ap (λ (k : ℕ). laid k (updated u (sorted (all_rows t)))) (index-long h) ∙ ap (laid (index_words names_per_group)) (sym e) ∙ sym after

@@ -8,23 +8,15 @@ ghost use Rattle.semantics.specs.Table.{state_of};
 ghost use Rattle.semantics.specs.Test.{sound};
 ghost use Rattle.semantics.specs.Fits.{Fits};
 ghost use Rattle.semantics.specs.Call.{call, listed_over};
-ghost use Rattle.indexes.specs.Index.{key_of, index_of_table};
+ghost use Rattle.indexes.specs.Index.{index_of_table};
 ghost use Rattle.indexes.specs.Updates.{pid_in, moved, taken, leaving, update_of};
 ghost use Rattle.indexing.specs.PidFound.{pid_found};
 
 use answers::{Answer, Reason};
 use commands::Command;
-use entries::HALF_WORD;
 use index_test::names_total;
-use indexes::Update;
+use indexes::{Update, key_of};
 use sound_table::{GroupAt, SoundTable};
-
-// The key of a pid in an s_group.
-fn key_of(p: u32, s: u32) -> u64
-    ensures { result ≡ key_of p s }
-{
-    (p as u64) * HALF_WORD + s as u64
-}
 
 // The pid that stands under the name in the s_group.
 fn find_in(t: SoundTable<'_>, s: u32, n: u32) -> Option<u32>
@@ -51,29 +43,19 @@ fn leaving(t: SoundTable<'_>, s: u32, set: u64) -> u64
     nodes::inter(members, set)
 }
 
-// What the command makes of the rows where it is done. Each command has an arm of its own: in arms that are joined the ranges of the arguments,
-// which `fits` promises, are not known (tried).
+// What the command makes of the rows where it is done. A match, since what each of the five takes differs: a table of functions would be no plainer.
 #[tactic(auto, unfolding(indexes::specs::Updates::update_of))]
-fn update_of(t: SoundTable<'_>, command: Command) -> Update
+fn update_of(t: SoundTable<'_>, command: Command) -> Option<Update>
     ensures value { result ≡ update_of command (state_of names_per_group t.entry.words.now).groups }
     ensures fits { Fits command }
 {
     match command {
-        Command::RegisterName { s, n, p } => Update::More(key_of(p, s), n),
-        Command::ReRegisterName { s, n, p } => moved(find_in(t, s, n), s, n, p),
+        Command::RegisterName { s, n, p } => Some(Update::More(key_of(p, s), n)),
+        Command::ReRegisterName { s, n, p } => Some(moved(find_in(t, s, n), s, n, p)),
         Command::UnregisterName { s, n } => taken(find_in(t, s, n), s),
-        Command::RegisteredNames { s } => Update::Nothing,
-        Command::WhereisName { s, n } => Update::Nothing,
-        Command::WhereisNameAt { node, s, n } => Update::Nothing,
-        Command::Send { p } => Update::Nothing,
-        Command::SendName { s, n } => Update::Nothing,
-        Command::SendAt { node, s, n } => Update::Nothing,
-        Command::NewSGroup { s, set } => Update::Nothing,
-        Command::AddNodes { s, set } => Update::Nothing,
-        Command::RemoveNodes { s, set } => Update::Gone(s, leaving(t, s, set)),
-        Command::DeleteSGroup { s } => Update::Gone(s, nodes::roster(nodes::NODE_LIMIT)),
-        Command::OwnNodes => Update::Nothing,
-        Command::OwnSGroups => Update::Nothing,
+        Command::RemoveNodes { s, set } => Some(Update::Gone(s, leaving(t, s, set))),
+        Command::DeleteSGroup { s } => Some(Update::Gone(s, nodes::roster(nodes::NODE_LIMIT))),
+        _ => None,
     }
 }
 
@@ -88,13 +70,10 @@ fn moved(found: Option<u32>, s: u32, n: u32, p: u32) -> Update
 }
 
 // The row of the pid that the name had goes.
-fn taken(found: Option<u32>, s: u32) -> Update
+fn taken(found: Option<u32>, s: u32) -> Option<Update>
     ensures { result ≡ taken s (pid_found found) }
 {
-    match found {
-        Some(q) => Update::Less(key_of(q, s)),
-        None => Update::Nothing,
-    }
+    Some(Update::Less(key_of(found?, s)))
 }
 
 // What the caller's command answers; a list goes to the front of `out`, and the index is kept.

@@ -1,4 +1,5 @@
 // The library for C and Rust: opening, the test and the commands, with numbers for their answers. A run is passed as a pointer and a length.
+// Functions of one body stay apart, here and in `with_index`: C calls each under its own name, with arguments of its own.
 #![tactic(auto)]
 
 mod with_index;

@@ -1,4 +1,4 @@
-// The calls with an index beside the table, with numbers for their answers.
+// The calls with an index beside the table, with numbers for their answers. Functions of one body stay apart, since C calls each under its own name.
 ghost use Rattle.std.specs.Prelude.{◌≡◌, [], length, Some};
 ghost use Rattle.commands.specs.declared.Command.TheVariants.{RegisterName, ReRegisterName, UnregisterName, RegisteredNames, WhereisName, WhereisNameAt, Send, SendName, SendAt, NewSGroup, AddNodes, RemoveNodes, DeleteSGroup, OwnNodes, OwnSGroups};
 ghost use Rattle.commands.specs.declared.Command.{Command};

@@ -7,7 +7,7 @@ ghost use Rattle.print.specs.Puts.{Puts};
 ghost use Rattle.who_report.specs.Who.{name_line, name_lines, names_told, host_words, why, who_lines};
 
 use answers::{Answer, Reason};
-use entries::PIDS_PER_HOST;
+use entries::host_of;
 use print::Printer;
 
 // Puts the line of a name: the s_group, and the name in it.
@@ -47,7 +47,7 @@ fn put_host(printer: &mut Printer, p: u32)
     ensures { Puts printer.old printer.new (host_words p) }
 {
     printer.put_bytes(b"the pid's host, node ");
-    printer.put_number((p / PIDS_PER_HOST) as u64);
+    printer.put_number(host_of(p) as u64);
     printer.put_bytes(b", is not on the roster\n");
 }
 

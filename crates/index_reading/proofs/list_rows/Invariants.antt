@@ -5,4 +5,4 @@ use Rattle.index_reading.specs.Listing.{listed_rows}
 use Rattle.index_reading.proofs.list_rows.Given as goal
 
 abbrev pub invariant-loop-k : goal.invariant-loop-k
-invariant-loop-k l = record { long : length l.out ≡ length l.initial.out; listed : l.out ≡ listed_rows l.index l.from l.initial.out l.k }
+invariant-loop-k l = record { long : length l.out ≡ length l.initial.out; listed : l.out ≡ listed_rows l.rows l.initial.out l.k }

@@ -12,43 +12,33 @@ use Rattle.index_reading.proofs.names_of.Goals as goal
 pair : {t index : List ℕ} → sound names_per_group t ≡ true → index ≡ index_of_table names_per_group t → Paired t index
 pair ok is = record { ok = ok; is = is }
 
-pub returns-then-size-p : goal.returns-then-size-p
-returns-then-size-p c =
-    rw (read-unknown (pair c.args.t.fit c.requires.index_value) (length c.args.out.now) c.args.p (omega (arith, c.size.ensures.value, c.if-size-p.true)))
+pub returns-then-size-host_of : goal.returns-then-size-host_of
+returns-then-size-host_of c =
+    rw (read-unknown (pair c.args.t.fit c.requires.index_value) (length c.args.out.now) c.args.p (omega (arith, c.size.ensures.value, c.if-size-host_of.true)))
     (record { value = c.refused.ensures; out_after = refl })
 
-pub rank-from-requires : goal.rank-from-requires
-rank-from-requires c = rows_fit (pair c.args.t.fit c.requires.index_value) c.names_total-count.result c.names_total-count.ensures
+pub rows-rows-requires : goal.rows-rows-requires
+rows-rows-requires c = rows_fit (pair c.args.t.fit c.requires.index_value) c.names_total.result c.names_total.ensures
 
-pub rank-requires : goal.rank-requires
-rank-requires c = rows_fit (pair c.args.t.fit c.requires.index_value) c.names_total-count.result c.names_total-count.ensures
+pub slice_bounds-own-start : goal.slice_bounds-own-start
+slice_bounds-own-start c =
+    omega (arith, (ranked (pair c.args.t.fit c.requires.index_value) _ c.names_total.ensures c.rows-rows.result.now c.rows-rows.ensures.value c.args.p c.rank-from.result c.rank-to.result _ _ c.rank-from.ensures.value c.rank-to.ensures.value (omega arith) (omega arith)))
 
-pub overflow_sub-many : goal.overflow_sub-many
-overflow_sub-many c =
-    omega (arith, (ranked (pair c.args.t.fit c.requires.index_value) c.names_total-count.result c.names_total-count.ensures c.args.p c.rank-from.result c.rank.result _ _ c.rank-from.ensures.value c.rank.ensures.value (omega arith) (omega arith)))
-
-pub overflow_mul-words : goal.overflow_mul-words
-overflow_mul-words c =
-    omega (arith, (ranked (pair c.args.t.fit c.requires.index_value) c.names_total-count.result c.names_total-count.ensures c.args.p c.rank-from.result c.rank.result _ _ c.rank-from.ensures.value c.rank.ensures.value (omega arith) (omega arith)))
+pub slice_bounds-own-count : goal.slice_bounds-own-count
+slice_bounds-own-count c =
+    omega (arith, (ranked (pair c.args.t.fit c.requires.index_value) _ c.names_total.ensures c.rows-rows.result.now c.rows-rows.ensures.value c.args.p c.rank-from.result c.rank-to.result _ _ c.rank-from.ensures.value c.rank-to.ensures.value (omega arith) (omega arith)))
 
 pub returns-then-out-words : goal.returns-then-out-words
 returns-then-out-words c =
-    let f = (ranked (pair c.args.t.fit c.requires.index_value) c.names_total-count.result c.names_total-count.ensures c.args.p c.rank-from.result c.rank.result _ _ c.rank-from.ensures.value c.rank.ensures.value (omega arith) (omega arith)) in
-    rw (read_short (pair c.args.t.fit c.requires.index_value) (length c.args.out.now) c.args.p (omega (arith, c.size.ensures.value, c.if-size-p.false)) (omega (arith, f.words, c.if-out-words.true)))
+    let f = (ranked (pair c.args.t.fit c.requires.index_value) _ c.names_total.ensures c.rows-rows.result.now c.rows-rows.ensures.value c.args.p c.rank-from.result c.rank-to.result _ _ c.rank-from.ensures.value c.rank-to.ensures.value (omega arith) (omega arith)) in
+    rw (read_short (pair c.args.t.fit c.requires.index_value) (length c.args.out.now) c.args.p (omega (arith, c.size.ensures.value, c.if-size-host_of.false)) (omega (arith, f.words, c.if-out-words.true)))
     (record { value = c.refused-then-out-words.ensures; out_after = refl })
-
-pub list_rows-requires : goal.list_rows-requires
-list_rows-requires c =
-    record {
-      many_in_bounds = omega (arith, (ranked (pair c.args.t.fit c.requires.index_value) c.names_total-count.result c.names_total-count.ensures c.args.p c.rank-from.result c.rank.result _ _ c.rank-from.ensures.value c.rank.ensures.value (omega arith) (omega arith)));
-      many_in_bounds_2 = omega (arith, c.if-out-words.false);
-    }
 
 pub returns : goal.returns
 returns c =
-    let f = (ranked (pair c.args.t.fit c.requires.index_value) c.names_total-count.result c.names_total-count.ensures c.args.p c.rank-from.result c.rank.result _ _ c.rank-from.ensures.value c.rank.ensures.value (omega arith) (omega arith)) in
+    let f = (ranked (pair c.args.t.fit c.requires.index_value) _ c.names_total.ensures c.rows-rows.result.now c.rows-rows.ensures.value c.args.p c.rank-from.result c.rank-to.result _ _ c.rank-from.ensures.value c.rank-to.ensures.value (omega arith) (omega arith)) in
     rw (
-      read-listed (pair c.args.t.fit c.requires.index_value) (length c.args.out.now) c.args.p (omega (arith, c.size.ensures.value, c.if-size-p.false)) (omega (arith, f.words, c.if-out-words.false)),
+      read-listed (pair c.args.t.fit c.requires.index_value) (length c.args.out.now) c.args.p (omega (arith, c.size.ensures.value, c.if-size-host_of.false)) (omega (arith, f.words, c.if-out-words.false)),
       f.words,
     )
     (record { value = c.done.ensures; out_after = rw f.names at c.list_rows.ensures })

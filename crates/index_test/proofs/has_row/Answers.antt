@@ -1,6 +1,6 @@
 -- `index_test::has_row` meets its contract: what a slot says of a place is taken only if the s_group there has the name. Assumes nothing.
 use Rattle.std.specs.Prelude.{◌≡◌, true, List, ℕ, ◌%◌, Ok, Err}
-use Rattle.std.proofs.Common.{arith}
+use Rattle.std.proofs.Common.{sym, ◌∙◌, arith}
 use Rattle.entries.specs.Entries.{half_word}
 use Rattle.semantics.specs.Sizes.{names_per_group}
 use Rattle.semantics.specs.Test.{sound}
@@ -20,13 +20,13 @@ pub has_name-requires-in-Ok : goal.has_name-requires-in-Ok
 has_name-requires-in-Ok c =
     let t = c.args.t.words.now in
     let ok = c.args.t.fit in
-    let s = c.args.key % half_word in
+    let s = c.group_of-s.result in
     let found = seat t ok s c.place_of.result c.place_of.ensures c.in-Ok.at c.in-Ok.is in
-    record { at_bound = seat-below t ok found; half_word_value = seat-name t ok s c.in-Ok.at found; name_nonzero = omega arith; name_lt_half_word = omega arith }
+    record { at_bound = seat-below t ok found; half_word_value = sym c.group_of-s.ensures ∙ seat-name t ok s c.in-Ok.at found; name_nonzero = omega arith }
 
 pub returns-in-Err : goal.returns-in-Err
 returns-in-Err c =
     let t = c.args.t.words.now in
     let ok = c.args.t.fit in
-    let room = sought-here t ok (c.args.key % half_word) _ (Err c.in-Err.field-0) c.place_of.ensures c.in-Err.is in
+    let room = sought-here t ok (c.args.key % half_word) _ (Err c.in-Err.field-0) (rw c.group_of-s.ensures at c.place_of.ensures) c.in-Err.is in
     not-held t ok (record { key = c.args.key; name = c.args.name }) c.in-Err.field-0 room

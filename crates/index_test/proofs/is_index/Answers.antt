@@ -6,7 +6,7 @@ use Rattle.semantics.specs.Sizes.{names_per_group, row_words, index_words}
 use Rattle.semantics.specs.Test.{same, sound}
 use Rattle.free_test.specs.WireTests.{all_zero}
 use Rattle.sound_table.specs.Here.{here}
-use Rattle.indexes.specs.Index.{walk, index_of_table}
+use Rattle.indexes.specs.Index.{Row, walk, index_of_table}
 use Rattle.indexes.specs.Flat.{read_rows}
 use Rattle.indexes.specs.WalkWords.{walk-fits}
 use Rattle.index_test.specs.Right.{all_right}
@@ -41,12 +41,12 @@ returns-then-not-all_zero c =
     judged c.args.t.words.now c.args.t.fit c.args.index.now c.requires.index_len c.names_total-count.result c.names_total-count.ensures false
     (sym c.if-not-all_zero.true ∙ c.all_zero.ensures)
 
-pub rows_right-requires : goal.rows_right-requires
-rows_right-requires c =
-    record { count_in_bounds = room c.args.t.words.now c.args.t.fit c.args.index.now c.requires.index_len c.names_total-count.result c.names_total-count.ensures }
+pub rows-requires : goal.rows-requires
+rows-requires c = room c.args.t.words.now c.args.t.fit c.args.index.now c.requires.index_len c.names_total-count.result c.names_total-count.ensures
 
 pub returns : goal.returns
 returns c =
     c.rows_right.ensures
+    ∙ ap (λ (rs : List Row). all_right 0 rs (walk (here c.args.t.words.now).groups)) c.rows.ensures.value
     ∙ judged c.args.t.words.now c.args.t.fit c.args.index.now c.requires.index_len c.names_total-count.result c.names_total-count.ensures true
     (sym c.if-not-all_zero.false ∙ c.all_zero.ensures)

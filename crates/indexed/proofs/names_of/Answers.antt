@@ -8,10 +8,5 @@ returns-in-Err c =
     let a = c.args in
     read-refused a.table.now a.index.now a.p a.out.now c.check_index.ensures c.in-Err.is c.refused.ensures
 
-pub invariant_of-names_of : goal.invariant_of-names_of
-invariant_of-names_of c =
-    let q = index_there c.args.table.now c.args.index.now (passes c.check_index.ensures c.in_default.is) in
-    record { sized = q.t_len; fit = q.t_value }
-
 pub names_of-requires : goal.names_of-requires
 names_of-requires c = record { index_value = (index_there c.args.table.now c.args.index.now (passes c.check_index.ensures c.in_default.is)).index_value }

@@ -11,12 +11,6 @@ returns-in-Err c =
     let a = c.args in
     (tells-refused a.table.now a.index.now a.caller OwnNodes [] c.check_index.ensures c.in-Err.is c.refused.ensures).value
 
-pub invariant_of-own_nodes : goal.invariant_of-own_nodes
-invariant_of-own_nodes c =
-    let a = c.args in
-    let q = index_there a.table.now a.index.now (passes c.check_index.ensures c.in_default.is) in
-    record { sized = q.t_len; fit = q.t_value }
-
 pub returns : goal.returns
 returns c =
     let a = c.args in

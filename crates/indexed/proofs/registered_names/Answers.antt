@@ -9,12 +9,6 @@ returns-in-Err c =
     let a = c.args in
     tells-refused a.table.now a.index.now a.caller (RegisteredNames a.s) a.out.now c.check_index.ensures c.in-Err.is c.refused.ensures
 
-pub invariant_of-registered_names : goal.invariant_of-registered_names
-invariant_of-registered_names c =
-    let a = c.args in
-    let q = index_there a.table.now a.index.now (passes c.check_index.ensures c.in_default.is) in
-    record { sized = q.t_len; fit = q.t_value }
-
 pub returns : goal.returns
 returns c =
     let a = c.args in

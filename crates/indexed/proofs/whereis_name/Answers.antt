@@ -11,12 +11,6 @@ returns-in-Err c =
     let a = c.args in
     (tells-refused a.table.now a.index.now a.caller (WhereisName a.s a.n) [] c.check_index.ensures c.in-Err.is c.refused.ensures).value
 
-pub invariant_of-whereis_name : goal.invariant_of-whereis_name
-invariant_of-whereis_name c =
-    let a = c.args in
-    let q = index_there a.table.now a.index.now (passes c.check_index.ensures c.in_default.is) in
-    record { sized = q.t_len; fit = q.t_value }
-
 pub returns : goal.returns
 returns c =
     let a = c.args in

@@ -10,6 +10,3 @@ returns-in-Err c =
 
 pub step-requires : goal.step-requires
 step-requires c = sound_run c.args.table.now c.check.ensures c.in_default.is
-
-pub returns : goal.returns
-returns c = record { value = c.step.ensures.value; table_after = c.step.ensures.t_after; out_after = c.step.ensures.out_after }

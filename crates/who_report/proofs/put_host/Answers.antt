@@ -6,4 +6,4 @@ use Rattle.who_report.proofs.put_host.Goals as goal
 
 pub returns : goal.returns
 unfolding host_words
-returns c = puts_next c.put_bytes.ensures (puts_next c.put_number.ensures c.put_bytes-2.ensures)
+returns c = puts_next c.put_bytes.ensures (puts_next (rw c.host_of.ensures at c.put_number.ensures) c.put_bytes-2.ensures)

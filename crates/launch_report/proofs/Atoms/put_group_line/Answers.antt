@@ -1,8 +1,8 @@
--- `launch_report::put_group_line` meets its contract: the word, the number and the atom, the members, the newline.
+-- `launch_report::Atoms::put_group_line` meets its contract: the word, the number and the atom, the members, the newline.
 -- Assumes nothing.
 use Rattle.print.specs.Puts.{puts_next}
 use Rattle.launch_report.specs.Launched.{group_line}
-use Rattle.launch_report.proofs.put_group_line.Goals as goal
+use Rattle.launch_report.proofs.Atoms.put_group_line.Goals as goal
 
 pub returns : goal.returns
 unfolding group_line

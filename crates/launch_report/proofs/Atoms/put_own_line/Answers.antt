@@ -1,8 +1,8 @@
--- `launch_report::put_own_line` meets its contract: by whether the node is a member.
+-- `launch_report::Atoms::put_own_line` meets its contract: by whether the node is a member.
 -- Assumes nothing.
 use Rattle.print.specs.Puts.{puts_next, puts_none}
 use Rattle.launch_report.specs.Launched.{own_line, own_part}
-use Rattle.launch_report.proofs.put_own_line.Goals as goal
+use Rattle.launch_report.proofs.Atoms.put_own_line.Goals as goal
 
 pub returns-then-has : goal.returns-then-has
 unfolding own_part own_line

@@ -1,8 +1,8 @@
--- `launch_report::put_member` meets its contract: by whether the set has the node.
+-- `launch_report::Atoms::put_member` meets its contract: by whether the set has the node.
 -- Assumes nothing.
 use Rattle.print.specs.Puts.{puts_none}
 use Rattle.launch_report.specs.Launched.{member}
-use Rattle.launch_report.proofs.put_member.Goals as goal
+use Rattle.launch_report.proofs.Atoms.put_member.Goals as goal
 
 pub returns-then-has : goal.returns-then-has
 unfolding member

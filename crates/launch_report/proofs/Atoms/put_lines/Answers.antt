@@ -1,19 +1,19 @@
--- `launch_report::put_lines` meets its contract: the first line, and what the table has.
+-- `launch_report::Atoms::put_lines` meets its contract: the first line, and what the table has.
 -- Assumes nothing.
 use Rattle.std.proofs.Common.{sym, ◌∙◌}
 use Rattle.print.specs.Puts.{puts_next, puts_as}
 use Rattle.launch_report.specs.Launched.{launched_lines}
 use Rattle.launch_report.specs.Telling.{table-long, unsound-lines}
-use Rattle.launch_report.proofs.put_lines.Goals as goal
+use Rattle.launch_report.proofs.Atoms.put_lines.Goals as goal
 
-pub invariant_of-put_table : goal.invariant_of-put_table
-invariant_of-put_table c =
+pub invariant_of-table : goal.invariant_of-table
+invariant_of-table c =
     let ok = sym c.is_sound.ensures ∙ c.if-is_sound.true in
-    record { sized = table-long c.args.table.now ok; fit = ok }
+    record { sized = table-long c.args.words.now ok; fit = ok }
 
 pub returns-then-is_sound : goal.returns-then-is_sound
 unfolding launched_lines
-returns-then-is_sound c = puts_next c.put_bytes.ensures c.put_table.ensures
+returns-then-is_sound c = puts_next c.put_bytes.ensures (puts_next c.put_groups.ensures c.put_own.ensures)
 
 pub returns-else-is_sound : goal.returns-else-is_sound
 unfolding launched_lines

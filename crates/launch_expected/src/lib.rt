@@ -50,11 +50,12 @@ impl Trial<'_> {
         ensures value { result ≡ follows self.old.room.now self.old.place bytes.now }
         ensures kept { Kept self.old self.new }
     {
-        if self.room.len() < self.place {
+        let room = &mut *self.room;
+        if room.len() < self.place {
             return false;
         }
-        let end = print::put_bytes(self.room, self.place, bytes);
-        match Reader::new(front(self.room, end)).read() {
+        let end = print::put_bytes(room, self.place, bytes);
+        match Reader::new(front(room, end)).read() {
             Ok(_) => true,
             Err(p) => end <= p,
         }

@@ -21,7 +21,7 @@ loop-i-preserved c =
     let h : c.loop-i.i < 64 = omega (arith, c.loop-i-test.true, ap length c.front-tried.ensures, length-take 64 c.args.bytes.now) in
     let b : get_or c.front-tried.result.now c.loop-i.i 0 ≡ get_or c.args.bytes.now c.loop-i.i 0 =
     ap (λ t. get_or t c.loop-i.i 0) c.front-tried.ensures ∙ get_or-take 64 c.args.bytes.now c.loop-i.i 0 h in
-    let e = f.value ∙ ap (λ p. follows c.loop-i.self.room.now p _) v.kept.place ∙ ap (λ (x : ℕ). follows c.loop-i.self.room.now c.args.self.now.place (x ∷ [])) b in
+    let e = f.value ∙ ap (λ p. follows c.loop-i.self.room.now p (get_or c.front-tried.result.now c.loop-i.i 0 ∷ [])) v.kept.place ∙ ap (λ (x : ℕ). follows c.loop-i.self.room.now c.args.self.now.place (x ∷ [])) b in
     record {
       kept = kept_on v.kept f.kept;
       found = elim c.if-fits.branch [ then-fits w ↦ with_byte _ _ _ _ _ v.kept.length v.kept.front _ e _ v.found w.if-fits.true _ (w.set-is ∙ w.with-set.ensures) | else-fits w ↦ w.set-is ∙ without-byte _ _ _ _ _ v.kept.length v.kept.front _ e _ v.found w.if-fits.false ];

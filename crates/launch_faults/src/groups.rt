@@ -11,7 +11,7 @@ pub struct Spot<'a> {
 
 // An atom that is not in its part of the book: the name of a group, or a node of one. Both have the atom, so it is no Option.
 #[derive(Clone, Copy)]
-pub enum Unlisted<'a> {
+pub enum Stranger<'a> {
     Group(Spot<'a>),
     Node(Spot<'a>),
 }
@@ -24,7 +24,7 @@ struct Atoms<'a> {
 }
 
 // The atom between two places; it has no bytes where there are no such places.
-fn spot(text: &[u8], from: usize, to: usize) -> Spot<'_> {
+fn spot_at(text: &[u8], from: usize, to: usize) -> Spot<'_> {
     let atom = text.get(from..to).unwrap_or(b"");
     Spot { at: from, atom }
 }
@@ -34,7 +34,7 @@ pub fn torn_group<'a>(text: &'a [u8], g: usize, node: &[u8]) -> Option<Spot<'a>>
     let mut at = g;
     for count in 0..text.len() {
         let group = next_group(text, at, 0 < count)?;
-        let name = spot(text, group.from, group.to);
+        let name = spot_at(text, group.from, group.to);
         if duplicates::torn(text, g, name.atom, group.nodes, node) {
             return Some(name);
         }
@@ -63,7 +63,7 @@ impl Atoms<'_> {
                 Node::More(node) => (node, false),
                 Node::Last(node) => (node, true),
             };
-            let name = spot(text, node.from, node.to);
+            let name = spot_at(text, node.from, node.to);
             if !self.has_node(name.atom) {
                 return Some(name);
             }
@@ -76,21 +76,21 @@ impl Atoms<'_> {
     }
 
     // The first atom of a group with this name that is not in the book: the name, or one of the nodes, which stand at a place.
-    fn unlisted_in<'a>(&self, text: &'a [u8], name: Spot<'a>, nodes: usize) -> Option<Unlisted<'a>> {
+    fn unlisted_in<'a>(&self, text: &'a [u8], name: Spot<'a>, nodes: usize) -> Option<Stranger<'a>> {
         if !self.has_group(name.atom) {
-            return Some(Unlisted::Group(name));
+            return Some(Stranger::Group(name));
         }
-        self.unlisted_node(text, nodes).map(Unlisted::Node)
+        self.unlisted_node(text, nodes).map(Stranger::Node)
     }
 }
 
 // The first atom of a group that is to be made that is not in the book for n nodes. The groups stand at g.
-pub fn unlisted<'a>(text: &'a [u8], g: usize, book: &[u8], n: u32) -> Option<Unlisted<'a>> {
+pub fn unlisted<'a>(text: &'a [u8], g: usize, book: &[u8], n: u32) -> Option<Stranger<'a>> {
     let atoms = Atoms { book, n };
     let mut at = g;
     for count in 0..text.len() {
         let group = next_group(text, at, 0 < count)?;
-        let name = spot(text, group.from, group.to);
+        let name = spot_at(text, group.from, group.to);
         if duplicates::made(text, g, count, name.atom, group.nodes) {
             let found = atoms.unlisted_in(text, name, group.nodes);
             if found.is_some() {

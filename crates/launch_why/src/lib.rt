@@ -3,7 +3,7 @@
 
 use answers::Reason;
 use launch_expected::{front, put_expected};
-use launch_faults::{Fault, Spot, Unlisted};
+use launch_faults::{Fault, Spot, Stranger};
 use print::Printer;
 use reader::Reader;
 use refusal_head::{Named, put_place};
@@ -116,11 +116,11 @@ fn put_torn(printer: &mut Printer, file: Named, g: usize, node: &[u8]) {
 // The atom that is not in its part of the book, before or behind the first n lines.
 fn put_unlisted(printer: &mut Printer, file: Named, g: usize, book: &[u8], n: u32) {
     match launch_faults::unlisted(file.text, g, book, n) {
-        Some(Unlisted::Group(name)) => {
+        Some(Stranger::Group(name)) => {
             let words = b" is no s_group: it does not stand behind the first ";
             put_spot(printer, file, name, words);
         }
-        Some(Unlisted::Node(node)) => {
+        Some(Stranger::Node(node)) => {
             let words = b" is no node: it is not among the first ";
             put_spot(printer, file, node, words);
         }

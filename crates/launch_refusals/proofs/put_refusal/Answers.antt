@@ -27,6 +27,6 @@ returns c =
     let h = c.put_head-p in
     let e = h.ensures ∙ ap (put _) (same_head _ _ _ _ _ _ _ c.is_slip-slip.ensures c.front-text.ensures) in
     elim c.if-slip.branch [
-      | then-slip w ↦ rw w.out-is (said-begins _ h.new.out h.result _ e w.put_slip.new.out (length h.new.out - h.result) _ (omega arith) (search rules))
-      | else-slip w ↦ rw w.out-is (said-begins _ h.new.out h.result _ e w.put_why.new.out (length h.new.out - h.result) _ (omega arith) (search rules))
+      | then-slip w ↦ rw w.out-is (said-begins _ h.new.out h.result _ e w.put_slip-why.new.out (length h.new.out - h.result) _ (omega arith) (search rules))
+      | else-slip w ↦ rw w.out-is (said-begins _ h.new.out h.result _ e w.put_why-why.new.out (length h.new.out - h.result) _ (omega arith) (search rules))
     ]

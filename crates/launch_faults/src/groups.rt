@@ -76,7 +76,12 @@ impl Atoms<'_> {
     }
 
     // The first atom of a group with this name that is not in the book: the name, or one of the nodes, which stand at a place.
-    fn unlisted_in<'a>(&self, text: &'a [u8], name: Spot<'a>, nodes: usize) -> Option<Stranger<'a>> {
+    fn unlisted_in<'a>(
+        &self,
+        text: &'a [u8],
+        name: Spot<'a>,
+        nodes: usize,
+    ) -> Option<Stranger<'a>> {
         if !self.has_group(name.atom) {
             return Some(Stranger::Group(name));
         }

@@ -30,6 +30,7 @@ fn put_atom(printer: &mut Printer, atom: &[u8])
 
 impl Atoms<'_> {
     // Puts the atom of a node, if it is in the set.
+    #[tactic(auto, using(print::specs::Puts::puts_none), unfolding(crate::specs::Launched::member))]
     fn put_member(&self, printer: &mut Printer, set: u64, node: u32)
         ensures { Puts printer.old printer.new (member self.now.book.now set node) }
     {

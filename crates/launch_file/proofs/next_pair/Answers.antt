@@ -6,7 +6,9 @@ use Rattle.launch_file.proofs.Exits.{handed_on}
 use Rattle.launch_file.proofs.next_pair.Goals as goal
 
 pub returns-in_err-n : goal.returns-in_err-n
-returns-in_err-n c = rw (handed_on c.from_residual.result c.from_residual.ensures.1) (next-stops _ _ _ _ _ _ (rw (part_to_end c.args.text.now 0) at (sym c.in_err-n.ensures)))
+returns-in_err-n c =
+    rw (handed_on c.from_residual.result c.from_residual.ensures.1)
+    (next-stops _ _ _ _ _ _ (rw (part_to_end c.args.text.now 0) at (sym c.in_err-n.ensures)))
 
 pub overflow_sub-result : goal.overflow_sub-result
 overflow_sub-result c =

@@ -7,16 +7,24 @@ pub returns-in_err-pass_groups : goal.returns-in_err-pass_groups
 returns-in_err-pass_groups c = rw (handed_on c.from_residual.result c.from_residual.ensures.1) (rest-cut _ _ _ c.in_err-pass_groups.ensures)
 
 pub returns-in_err-groups : goal.returns-in_err-groups
-returns-in_err-groups c = rw (handed_on c.from_residual-in_err-groups.result c.from_residual-in_err-groups.ensures.1) (rest-open _ _ _ c.in_ok-pass_groups.ensures _ c.in_err-groups.ensures)
+returns-in_err-groups c =
+    rw (handed_on c.from_residual-in_err-groups.result c.from_residual-in_err-groups.ensures.1)
+    (rest-open _ _ _ c.in_ok-pass_groups.ensures _ c.in_err-groups.ensures)
 
 pub returns-in_err-to_end : goal.returns-in_err-to_end
-returns-in_err-to_end c = rw (handed_on c.from_residual-in_err-to_end.result c.from_residual-in_err-to_end.ensures.1) (kernel-stops _ _ _ c.in_ok-pass_groups.ensures _ c.in_ok-groups.ensures _ c.in_err-to_end.ensures)
+returns-in_err-to_end c =
+    rw (handed_on c.from_residual-in_err-to_end.result c.from_residual-in_err-to_end.ensures.1)
+    (kernel-stops _ _ _ c.in_ok-pass_groups.ensures _ c.in_ok-groups.ensures _ c.in_err-to_end.ensures)
 
 pub returns-in_err-entry : goal.returns-in_err-entry
-returns-in_err-entry c = rw (handed_on c.from_residual-in_err-entry.result c.from_residual-in_err-entry.ensures.1) (kernel-open _ _ _ c.in_ok-pass_groups.ensures _ c.in_ok-groups.ensures _ c.in_ok-to_end.ensures _ c.in_err-entry.ensures)
+returns-in_err-entry c =
+    rw (handed_on c.from_residual-in_err-entry.result c.from_residual-in_err-entry.ensures.1)
+    (kernel-open _ _ _ c.in_ok-pass_groups.ensures _ c.in_ok-groups.ensures _ c.in_ok-to_end.ensures _ c.in_err-entry.ensures)
 
 pub returns-in_err-to_end-2 : goal.returns-in_err-to_end-2
-returns-in_err-to_end-2 c = rw (handed_on c.from_residual-in_err-to_end-2.result c.from_residual-in_err-to_end-2.ensures.1) (rest-stops _ _ _ c.in_ok-pass_groups.ensures _ c.in_ok-groups.ensures _ c.in_ok-to_end.ensures _ c.in_ok-entry.ensures _ c.in_err-to_end-2.ensures)
+returns-in_err-to_end-2 c =
+    rw (handed_on c.from_residual-in_err-to_end-2.result c.from_residual-in_err-to_end-2.ensures.1)
+    (rest-stops _ _ _ c.in_ok-pass_groups.ensures _ c.in_ok-groups.ensures _ c.in_ok-to_end.ensures _ c.in_ok-entry.ensures _ c.in_err-to_end-2.ensures)
 
 pub returns : goal.returns
 returns c =

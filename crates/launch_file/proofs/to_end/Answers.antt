@@ -8,7 +8,9 @@ pub loop-n-init : goal.loop-n-init
 loop-n-init c = reached-here _ _ _ _
 
 pub returns-in_err-n : goal.returns-in_err-n
-returns-in_err-n c = rw (handed_on c.from_residual.result c.from_residual.ensures.1) (end-stops _ _ _ _ _ c.loop-n.invariant _ c.in_err-n.ensures)
+returns-in_err-n c =
+    rw (handed_on c.from_residual.result c.from_residual.ensures.1)
+    (end-stops _ _ _ _ _ c.loop-n.invariant _ c.in_err-n.ensures)
 
 pub returns-in-Own : goal.returns-in-Own
 returns-in-Own c = end-once _ _ _ _ _ _ (rw c.in-Own.is at c.in_ok-n.ensures)

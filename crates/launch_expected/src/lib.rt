@@ -45,7 +45,8 @@ fn put_choices(
 }
 
 impl Trial<'_> {
-    // Whether some launch file begins with the text in front of the place and these bytes, which are written there.
+    // Whether some launch file begins with the text in front of the place and these bytes, which are written there. The room is borrowed once for both calls: of
+    // a field that is borrowed anew for the second, it is not known that it keeps what the first put there (tried).
     fn fits(&mut self, bytes: &[u8]) -> bool
         ensures value { result ≡ follows self.old.room.now self.old.place bytes.now }
         ensures kept { Kept self.old self.new }
@@ -104,7 +105,8 @@ impl Trial<'_> {
         }
     }
 
-    // The rest of a quoted atom. Apart from `put_ending`: one function for both would take three texts of bytes, and a call would not say which of them is tried.
+    // The rest of a quoted atom. Apart from `put_ending`: one function for both would take three texts of bytes, and a call would not say which of them
+    // is tried.
     fn put_quoted(&mut self, printer: &mut Printer) {
         if self.fits(b"'") {
             printer.put_bytes(b"more of the atom, but no backslash, or its closing quote");

@@ -89,8 +89,8 @@ impl Atoms<'_> {
         }
     }
 
-    // Puts a line for each of them that has the node. A loop beside that of put_groups: each puts lines of its own, and one loop for both would take a closure with the
-    // contract of either.
+    // Puts a line for each of them that has the node. A loop beside that of put_groups: each puts lines of its own, and one loop for both would take a
+    // closure with the contract of either.
     fn put_own_groups(&self, printer: &mut Printer, node: u32, table: SoundTable<'_>)
         ensures { Puts printer.old printer.new (own_each self.now.book.now self.now.n node (groups_in table.entry.words.now)) }
     {

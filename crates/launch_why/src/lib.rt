@@ -164,8 +164,8 @@ fn put_reason(printer: &mut Printer, reason: Reason, asked: Asked, book: Named, 
     }
 }
 
-// Puts why a launch is refused for its numbers, its book or the groups of its file. Its body is that of `refusal_head::put_head`: a printer on the run, one call, the
-// place. One function for both would take the call as a closure, and the two would be no shorter.
+// Puts why a launch is refused for its numbers, its book or the groups of its file. Its body is that of `refusal_head::put_head`: a printer on the run, one
+// call, the place. One function for both would take the call as a closure, and the two would be no shorter.
 pub fn put_why(out: &mut [u8], reason: Reason, asked: Asked, book: Named, file: Named) -> usize {
     let mut printer = Printer { bytes: out, at: 0 };
     put_reason(&mut printer, reason, asked, book, file);

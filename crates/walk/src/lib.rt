@@ -10,8 +10,8 @@ ghost use Rattle.walk.specs.Along.{nodes_left};
 
 use tokens::{Atom, Token, past_white};
 
-// A node of a group: behind it stands a comma, and the place is behind that; or it is the last one, and the place is behind the whole group. Either was read, so it is no
-// Result: neither is an error.
+// A node of a group: behind it stands a comma, and the place is behind that; or it is the last one, and the place is behind the whole group. Either was
+// read, so it is no Result: neither is an error.
 #[derive(Clone, Copy)]
 pub enum Node {
     More(Atom),
@@ -154,8 +154,8 @@ impl<'a> Iterator for Nodes<'a> {
     }
 }
 
-// The rest of a group, from its first node or from behind a comma. A loop by a place: each node says where the next one stands, and the answer is the place where the
-// nodes end or stop, which no item of `Nodes` has.
+// The rest of a group, from its first node or from behind a comma. A loop by a place: each node says where the next one stands, and the answer is the
+// place where the nodes end or stop, which no item of `Nodes` has.
 #[tactic(auto, using(crate::proofs::Steps::node_steps))]
 pub fn pass_nodes(text: &[u8], at: usize) -> Result<usize, usize>
     ensures { result ≡ pass_nodes text.now at }

@@ -66,6 +66,7 @@ fn next_pair(text: &[u8], at: usize, begun: bool, own: &[u8], found: bool) -> Re
 
 // From behind the bracket of a list with this own key: the place behind the bracket of its own entry, or where it stops. The list
 // does not end in front of its own pair. A loop by a place: each pair says where the next one stands, and the answer is the place where it ends or stops.
+#[tactic(auto, using(crate::proofs::Steps::own_steps))]
 fn to_own(text: &[u8], at: usize, own: &[u8]) -> Result<usize, usize>
     ensures { ToOwn own.now text.now at result }
 {
@@ -85,6 +86,7 @@ fn to_own(text: &[u8], at: usize, own: &[u8]) -> Result<usize, usize>
 
 // From behind the own pair of a list with this own key: the place behind the list, or where it stops. The own pair does not stand
 // there again. A loop by a place, as in `to_own`.
+#[tactic(auto, using(crate::proofs::Steps::end_steps))]
 fn to_end(text: &[u8], at: usize, own: &[u8]) -> Result<usize, usize>
     ensures { ToEnd own.now text.now at result }
 {
@@ -145,6 +147,7 @@ fn ended(text: &[u8], at: usize) -> Result<usize, usize>
 }
 
 // Whether a file ends at once behind its groups, whose list ends at a place.
+#[tactic(auto, using(crate::proofs::Steps::ends_steps))]
 pub fn ends(text: &[u8], at: usize) -> bool
     ensures { (g : ℕ) → pass_groups text.now g ≡ Ok at → result ≡ true → from_groups text.now g ≡ taken (groups text.now g) }
 {

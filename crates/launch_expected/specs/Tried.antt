@@ -9,7 +9,8 @@ use Rattle.print.specs.Putting.{put-said}
 use Rattle.grammar.specs.Place.{Shares, refused-place}
 use Rattle.grammar.specs.File.{Group, Outcome, taken, refused, outcome}
 use Rattle.launch_file.specs.Reading.{read_as}
-use Rattle.launch_expected.specs.Following.{unrefused, begins, follows, following}
+use Rattle.launch_expected.specs.Following.{unrefused, begins, follows, following, Kept}
+use Rattle.launch_expected.specs.declared.Trial.{Trial}
 
 -- no text stands in front of a place behind the run
 pub no_place : (room : List ℕ) (p : ℕ) (b : List ℕ) → length room < p → false ≡ follows room p b
@@ -32,6 +33,14 @@ module _ (room : List ℕ) (p : ℕ) (b : List ℕ) (h : p ≤ length room) (o :
 pub same-follows : (l o : List ℕ) (p : ℕ) (b : List ℕ) → length o ≡ length l → take p o ≡ take p l → follows o p b ≡ follows l p b
 unfolding follows
 same-follows l o p b h e = rw (h, e)
+
+-- a trial behind another
+pub kept_on : {a b c : Trial} → Kept a b → Kept b c → Kept a c
+kept_on {a = a} {b = b} {c = c} k l = record {
+  place = l.place ∙ k.place;
+  length = l.length ∙ k.length;
+  front = (rw k.place at l.front) ∙ k.front;
+}
 
 -- a turn of the loop over some bytes: whether the next can follow
 module _ (l o : List ℕ) (p : ℕ) (bs : List ℕ) (i : ℕ) (n : length o ≡ length l) (k : take p o ≡ take p l) (t : Bool) (e : t ≡ follows o p (get_or bs i 0 ∷ []))

@@ -2,7 +2,7 @@
 use book::{GROUP_ATOMS, LONGEST_ATOM};
 
 // What is wrong with a book: a line, counted from 1, is empty, too long or without a newline; there are fewer lines than nodes, or too many; or a line has the
-// atom of one in front of it.
+// atom of one in front of it. These are the errors of Results.
 #[derive(Clone, Copy)]
 pub enum Fault {
     Empty(usize),
@@ -13,7 +13,8 @@ pub enum Fault {
     Again(usize, usize),
 }
 
-// How many lines a text has, or what is wrong with the first that is not fine by itself.
+// How many lines a text has, or what is wrong with the first that is not fine by itself. A loop over what is left of the text, since an item of
+// `split` does not say whether a newline stands behind it.
 fn lines_of(book: &[u8]) -> Result<usize, Fault> {
     let mut count = 0;
     let mut rest = book;

@@ -1,81 +1,104 @@
 // The atom of a launch file for which a launch is refused.
-use duplicates::{Group, next_group};
-use tokens::Atom;
+use duplicates::next_group;
 use walk::{Node, node_at};
 
-// An atom of a file: where it begins and ends, as the name of a group or as a node of one.
+// An atom of a file: the place where it begins, and its bytes.
 #[derive(Clone, Copy)]
-pub enum Spot {
-    Group(usize, usize),
-    Node(usize, usize),
+pub struct Spot<'a> {
+    pub at: usize,
+    pub atom: &'a [u8],
 }
 
-// The bytes between two places, or none where there are no such places.
-pub fn part(text: &[u8], from: usize, to: usize) -> &[u8] {
-    text.get(from..to).unwrap_or(b"")
+// An atom that is not in its part of the book: the name of a group, or a node of one. Both have the atom, so it is no Option.
+#[derive(Clone, Copy)]
+pub enum Stranger<'a> {
+    Group(Spot<'a>),
+    Node(Spot<'a>),
 }
 
-// The first group with the name of one that has other nodes, the node with this atom in it. The groups stand at g.
-pub fn torn_group(text: &[u8], g: usize, node: &[u8]) -> Option<Group> {
+// The atoms of a book: its first n lines are those of the nodes, and those of the groups stand behind them.
+#[derive(Clone, Copy)]
+struct Atoms<'a> {
+    book: &'a [u8],
+    n: u32,
+}
+
+// The atom between two places; it has no bytes where there are no such places.
+fn spot_at(text: &[u8], from: usize, to: usize) -> Spot<'_> {
+    let atom = text.get(from..to).unwrap_or(b"");
+    Spot { at: from, atom }
+}
+
+// The name of the first group with the name of one that has other nodes, the node with this atom in it. The groups stand at g.
+pub fn torn_group<'a>(text: &'a [u8], g: usize, node: &[u8]) -> Option<Spot<'a>> {
     let mut at = g;
     for count in 0..text.len() {
         let group = next_group(text, at, 0 < count)?;
-        let name = part(text, group.from, group.to);
-        if duplicates::torn(text, g, name, group.nodes, node) {
-            return Some(group);
+        let name = spot_at(text, group.from, group.to);
+        if duplicates::torn(text, g, name.atom, group.nodes, node) {
+            return Some(name);
         }
         at = group.past;
     }
     None
 }
 
-// Whether an atom is among those of the n nodes.
-fn is_node(book: &[u8], n: u32, atom: &[u8]) -> bool {
-    book::seek(book, atom).is_some_and(|i| i < n as usize)
-}
-
-// Whether an atom is among those of the groups, which stand behind those of the n nodes.
-fn is_group(book: &[u8], n: u32, atom: &[u8]) -> bool {
-    book::seek(book, atom).is_some_and(|i| n as usize <= i)
-}
-
-// The first of the nodes at a place that is not in the book.
-fn unlisted_node(text: &[u8], nodes: usize, book: &[u8], n: u32) -> Option<Atom> {
-    let mut at = nodes;
-    for _ in 0..text.len() {
-        let (node, last) = match node_at(text, at).ok()? {
-            Node::More(node) => (node, false),
-            Node::Last(node) => (node, true),
-        };
-        if !is_node(book, n, part(text, node.from, node.to)) {
-            return Some(node);
-        }
-        if last {
-            return None;
-        }
-        at = node.past;
+impl Atoms<'_> {
+    // Whether an atom is one of a node.
+    fn has_node(&self, atom: &[u8]) -> bool {
+        book::seek(self.book, atom).is_some_and(|i| i < self.n as usize)
     }
-    None
-}
 
-// The first atom of a group, its name or a node, that is not in the book.
-fn unlisted_in(text: &[u8], group: Group, book: &[u8], n: u32) -> Option<Spot> {
-    if !is_group(book, n, part(text, group.from, group.to)) {
-        return Some(Spot::Group(group.from, group.to));
+    // Whether an atom is one of a group.
+    fn has_group(&self, atom: &[u8]) -> bool {
+        book::seek(self.book, atom).is_some_and(|i| self.n as usize <= i)
     }
-    unlisted_node(text, group.nodes, book, n).map(|node| Spot::Node(node.from, node.to))
+
+    // The first of the nodes at a place that is not in the book.
+    fn unlisted_node<'a>(&self, text: &'a [u8], nodes: usize) -> Option<Spot<'a>> {
+        let mut at = nodes;
+        for _ in 0..text.len() {
+            let (node, last) = match node_at(text, at).ok()? {
+                Node::More(node) => (node, false),
+                Node::Last(node) => (node, true),
+            };
+            let name = spot_at(text, node.from, node.to);
+            if !self.has_node(name.atom) {
+                return Some(name);
+            }
+            if last {
+                return None;
+            }
+            at = node.past;
+        }
+        None
+    }
+
+    // The first atom of a group with this name that is not in the book: the name, or one of the nodes, which stand at a place.
+    fn unlisted_in<'a>(
+        &self,
+        text: &'a [u8],
+        name: Spot<'a>,
+        nodes: usize,
+    ) -> Option<Stranger<'a>> {
+        if !self.has_group(name.atom) {
+            return Some(Stranger::Group(name));
+        }
+        self.unlisted_node(text, nodes).map(Stranger::Node)
+    }
 }
 
-// The first atom of a group that is to be made that is not in the book. The groups stand at g.
-pub fn unlisted(text: &[u8], g: usize, book: &[u8], n: u32) -> Option<Spot> {
+// The first atom of a group that is to be made that is not in the book for n nodes. The groups stand at g.
+pub fn unlisted<'a>(text: &'a [u8], g: usize, book: &[u8], n: u32) -> Option<Stranger<'a>> {
+    let atoms = Atoms { book, n };
     let mut at = g;
     for count in 0..text.len() {
         let group = next_group(text, at, 0 < count)?;
-        let name = part(text, group.from, group.to);
-        if duplicates::made(text, g, count, name, group.nodes) {
-            let spot = unlisted_in(text, group, book, n);
-            if spot.is_some() {
-                return spot;
+        let name = spot_at(text, group.from, group.to);
+        if duplicates::made(text, g, count, name.atom, group.nodes) {
+            let found = atoms.unlisted_in(text, name, group.nodes);
+            if found.is_some() {
+                return found;
             }
         }
         at = group.past;

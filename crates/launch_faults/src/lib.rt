@@ -5,4 +5,4 @@ mod books;
 mod groups;
 
 pub use books::{Fault, check_book};
-pub use groups::{Spot, part, torn_group, unlisted};
+pub use groups::{Spot, Stranger, torn_group, unlisted};

@@ -1,4 +1,5 @@
-// Reading a whole launch file: the pairs of the file and of its kernel entry, the list of groups, the full stop.
+// Reading a whole launch file: the pairs of the file and of its kernel entry, the list of groups, the full stop. The text and the place are two parameters, as in
+// `tokens`; `reader` has both in a struct, for messages.
 #![tactic(auto)]
 
 ghost use Rattle.std.specs.Prelude.{Ok, ◌≡◌, true, cond, ℕ};
@@ -12,7 +13,7 @@ use tokens::past_white;
 use walk::{Entry, entry_at, sign_at};
 
 // A pair of a list: the own one of that list, and the place behind the bracket of its entry; another one, and the place behind it; or the end of the list, and
-// the place behind that.
+// the place behind that. Three things, so no Option and no Result.
 #[derive(Clone, Copy)]
 enum Pair {
     Own(usize),
@@ -64,7 +65,8 @@ fn next_pair(text: &[u8], at: usize, begun: bool, own: &[u8], found: bool) -> Re
 }
 
 // From behind the bracket of a list with this own key: the place behind the bracket of its own entry, or where it stops. The list
-// does not end in front of its own pair.
+// does not end in front of its own pair. A loop by a place: each pair says where the next one stands, and the answer is the place where it ends or stops.
+#[tactic(auto, using(crate::proofs::Steps::own_steps))]
 fn to_own(text: &[u8], at: usize, own: &[u8]) -> Result<usize, usize>
     ensures { ToOwn own.now text.now at result }
 {
@@ -83,7 +85,8 @@ fn to_own(text: &[u8], at: usize, own: &[u8]) -> Result<usize, usize>
 }
 
 // From behind the own pair of a list with this own key: the place behind the list, or where it stops. The own pair does not stand
-// there again.
+// there again. A loop by a place, as in `to_own`.
+#[tactic(auto, using(crate::proofs::Steps::end_steps))]
 fn to_end(text: &[u8], at: usize, own: &[u8]) -> Result<usize, usize>
     ensures { ToEnd own.now text.now at result }
 {
@@ -144,6 +147,7 @@ fn ended(text: &[u8], at: usize) -> Result<usize, usize>
 }
 
 // Whether a file ends at once behind its groups, whose list ends at a place.
+#[tactic(auto, using(crate::proofs::Steps::ends_steps))]
 pub fn ends(text: &[u8], at: usize) -> bool
     ensures { (g : ℕ) → pass_groups text.now g ≡ Ok at → result ≡ true → from_groups text.now g ≡ taken (groups text.now g) }
 {

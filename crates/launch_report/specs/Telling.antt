@@ -80,7 +80,7 @@ module _ (book : List ℕ) (n : ℕ) (cs ms : List ℕ) (i : ℕ) (h : min (leng
 -- ---- the words of a table
 
 -- the members of the s_groups are the words
-pub bare-members : (cs ms : List ℕ) → length cs ≡ length ms → map (λ g. g.members) (bare cs ms) ≡ ms
+bare-members : (cs ms : List ℕ) → length cs ≡ length ms → map (λ g. g.members) (bare cs ms) ≡ ms
 bare-members [] [] e = refl
 bare-members [] (m ∷ ms) e = absurd (omega arith)
 bare-members (c ∷ cs) [] e = absurd (omega arith)
@@ -104,42 +104,50 @@ same-members cap [] ms b = refl
 same-members cap (c ∷ cs) [] b = refl
 same-members cap (c ∷ cs) (m ∷ ms) b = rw (same-members cap cs ms (drop cap b))
 
-same-own : (book : List ℕ) (n j cap : ℕ) (cs ms b : List ℕ) → own_lines book n j (groups_of cap cs ms b) ≡ own_lines book n j (bare cs ms)
-unfolding own_lines
-same-own book n j cap cs ms b = rw (same-each book n j cap cs ms b, same-members cap cs ms b)
-
 -- a sound table has the length of one
 pub table-long : (t : List ℕ) → sound names_per_group t ≡ true → length t ≡ table_words names_per_group
 table-long t ok = length-of (test-laid names_per_group t ok)
 
 -- and as many contents words as members
-pub as_many : (t : List ℕ) → length t ≡ table_words names_per_group → sound names_per_group t ≡ true
+as_many : (t : List ℕ) → length t ≡ table_words names_per_group → sound names_per_group t ≡ true
     → length (take (count_of t) (drop contents_at t)) ≡ length (take (count_of t) (drop members_at t))
 as_many t long ok = one-each t ok long contents_at (omega arith) _ refl ∙ sym (one-each t ok long members_at (omega arith) _ refl)
 
--- the s_groups of a table, and those of a node
-abbrev pub groups_lines : List ℕ → ℕ → ℕ → List ℕ → List ℕ
-groups_lines book n j t = group_lines book n (groups_in t) ++ own_lines book n j (groups_in t)
-
-module _ (book : List ℕ) (n j : ℕ) (t : List ℕ) where
-  -- those of a sound table are those of its contents words and members
-  pub sound-lines : sound names_per_group t ≡ true
-      → (cs ms : List ℕ) → cs ≡ take (count_of t) (drop contents_at t) → ms ≡ take (count_of t) (drop members_at t)
-      → group_lines book n (bare cs ms) ++ own_lines book n j (bare cs ms) ≡ groups_lines book n j t
+-- the s_groups of a sound table are those of its contents words and members
+module _ (t : List ℕ) (long : length t ≡ table_words names_per_group) (ok : sound names_per_group t ≡ true) (ms : List ℕ) (f : ms ≡ take (count_of t) (drop members_at t)) where
+  table-members : map (λ g. g.members) (groups_in t) ≡ ms
   unfolding groups_in state_of
-  sound-lines ok cs ms e f =
-      rw (
-        ok,
-        e,
-        f,
-        ← (same_lines book n names_per_group (take (count_of t) (drop contents_at t)) (take (count_of t) (drop members_at t)) (drop bodies_at t)),
-        ← (same-own book n j names_per_group (take (count_of t) (drop contents_at t)) (take (count_of t) (drop members_at t)) (drop bodies_at t)),
-      )
+  table-members =
+      rw (ok, f, same-members names_per_group (take (count_of t) (drop contents_at t)) (take (count_of t) (drop members_at t)) (drop bodies_at t))
+      (bare-members _ _ (as_many t long ok))
 
-  -- what is no sound table has none
-  pub unsound-lines : sound names_per_group t ≡ false → groups_lines book n j t ≡ bytes "own none\n"
-  unfolding groups_in group_lines own_lines own_each
-  unsound-lines e = rw e
+  module _ (cs : List ℕ) (e : cs ≡ take (count_of t) (drop contents_at t)) (book : List ℕ) (n : ℕ) where
+    pub table_lines : group_lines book n (bare cs ms) ≡ group_lines book n (groups_in t)
+    unfolding groups_in state_of
+    table_lines = rw (ok, e, f, ← (same_lines book n names_per_group (take (count_of t) (drop contents_at t)) (take (count_of t) (drop members_at t)) (drop bodies_at t)))
+
+    pub table-each : (j : ℕ) → own_each book n j (bare cs ms) ≡ own_each book n j (groups_in t)
+    unfolding groups_in state_of
+    table-each j = rw (ok, e, f, ← (same-each book n j names_per_group (take (count_of t) (drop contents_at t)) (take (count_of t) (drop members_at t)) (drop bodies_at t)))
+
+  -- the s_groups of a node, with all the nodes of the members together
+  module _ (j u : ℕ) (w : u ≡ union_all (take (length ms) ms)) (book : List ℕ) (n : ℕ) where
+    grouped : some_has (map (λ g. g.members) (groups_in t)) j ≡ has u j
+    grouped = rw (table-members, w, take-length, has_union_all)
+
+    pub own-some : has u j ≡ true → own_each book n j (groups_in t) ≡ own_lines book n j (groups_in t)
+    unfolding own_lines
+    own-some h = rw (grouped ∙ h)
+
+    pub own-none : has u j ≡ false → bytes "own none\n" ≡ own_lines book n j (groups_in t)
+    unfolding own_lines
+    own-none h = rw (grouped ∙ h)
+
+-- what is no sound table has none
+pub unsound-lines : (book : List ℕ) (n j : ℕ) (t : List ℕ) → sound names_per_group t ≡ false
+    → group_lines book n (groups_in t) ++ own_lines book n j (groups_in t) ≡ bytes "own none\n"
+unfolding groups_in group_lines own_lines own_each
+unsound-lines book n j t e = rw e
 
 -- ---- the number and the atom of an s_group
 
@@ -151,17 +159,3 @@ module _ (book : List ℕ) (n s : ℕ) where
   pub named_some : (atom : List ℕ) → (s ≡ 0 → ⊥) → atom ≡ get_or (lines book) (n + (s - 1)) [] → decimal s ++ quoted atom ≡ named book n s
   unfolding named
   named_some atom h e = rw (ne_eqb s 0 h, e, ← (get_or-drop n (lines book) (s - 1) []))
-
--- ---- the s_groups of a node, whose members are these words, with all their nodes together
-
-module _ (book : List ℕ) (n j : ℕ) (cs ms : List ℕ) (h : length cs ≡ length ms) (u : ℕ) (e : u ≡ union_all (take (length ms) ms)) where
-  grouped : some_has (map (λ g. g.members) (bare cs ms)) j ≡ has u j
-  grouped = rw (bare-members cs ms h, e, take-length, has_union_all)
-
-  pub own-some : has u j ≡ true → own_each book n j (bare cs ms) ≡ own_lines book n j (bare cs ms)
-  unfolding own_lines
-  own-some f = rw (grouped ∙ f)
-
-  pub own-none : has u j ≡ false → bytes "own none\n" ≡ own_lines book n j (bare cs ms)
-  unfolding own_lines
-  own-none f = rw (grouped ∙ f)

@@ -3,7 +3,7 @@
 
 use answers::Reason;
 use launch_expected::{front, put_expected};
-use launch_faults::{Fault, Spot, part};
+use launch_faults::{Fault, Spot, Stranger};
 use print::Printer;
 use reader::Reader;
 use refusal_head::{Named, put_place};
@@ -22,13 +22,13 @@ pub struct Asked {
 // ---- the numbers
 
 // A node that is none of the n: a hidden one, or else the starting one.
-fn put_no_node(printer: &mut Printer, n: u32, hidden: u64) {
-    if nodes::beyond(hidden, n) {
+fn put_no_node(printer: &mut Printer, asked: Asked) {
+    if nodes::beyond(asked.hidden, asked.n) {
         printer.put_bytes(b"HIDDEN has a node that is not among the first ");
     } else {
         printer.put_bytes(b"START is not among the first ");
     }
-    printer.put_number(n as u64);
+    printer.put_number(asked.n as u64);
     printer.put_bytes(b" nodes, which are numbered from 0\n");
 }
 
@@ -98,31 +98,31 @@ fn put_shown(printer: &mut Printer, atom: &[u8]) {
     printer.put_bytes(b"'");
 }
 
-// An atom of the file from a place to another, and what is wrong with it.
-fn put_spot(printer: &mut Printer, file: Named, from: usize, to: usize, words: &[u8]) {
-    put_place(printer, file, from);
-    put_shown(printer, part(file.text, from, to));
+// An atom of the file, and what is wrong with it.
+fn put_spot(printer: &mut Printer, file: Named, spot: Spot, words: &[u8]) {
+    put_place(printer, file, spot.at);
+    put_shown(printer, spot.atom);
     printer.put_bytes(words);
 }
 
 // The group of the starting node that has namesakes with other nodes.
 fn put_torn(printer: &mut Printer, file: Named, g: usize, node: &[u8]) {
-    if let Some(group) = launch_faults::torn_group(file.text, g, node) {
+    if let Some(name) = launch_faults::torn_group(file.text, g, node) {
         let words = b" names groups with different nodes, and the starting node is in this one\n";
-        put_spot(printer, file, group.from, group.to, words);
+        put_spot(printer, file, name, words);
     }
 }
 
 // The atom that is not in its part of the book, before or behind the first n lines.
 fn put_unlisted(printer: &mut Printer, file: Named, g: usize, book: &[u8], n: u32) {
     match launch_faults::unlisted(file.text, g, book, n) {
-        Some(Spot::Group(from, to)) => {
+        Some(Stranger::Group(name)) => {
             let words = b" is no s_group: it does not stand behind the first ";
-            put_spot(printer, file, from, to, words);
+            put_spot(printer, file, name, words);
         }
-        Some(Spot::Node(from, to)) => {
+        Some(Stranger::Node(node)) => {
             let words = b" is no node: it is not among the first ";
-            put_spot(printer, file, from, to, words);
+            put_spot(printer, file, node, words);
         }
         None => return,
     }
@@ -154,7 +154,7 @@ fn put_groups(printer: &mut Printer, reason: Reason, asked: Asked, book: &[u8], 
 fn put_reason(printer: &mut Printer, reason: Reason, asked: Asked, book: Named, file: Named) {
     match reason {
         Reason::RosterSize => printer.put_bytes(b"N is not 1 to 64\n"),
-        Reason::NodeUnknown => put_no_node(printer, asked.n, asked.hidden),
+        Reason::NodeUnknown => put_no_node(printer, asked),
         Reason::NoLaunchFile => {
             if let Err(fault) = launch_faults::check_book(book.text, asked.n) {
                 put_book_fault(printer, book.name, fault);
@@ -164,26 +164,18 @@ fn put_reason(printer: &mut Printer, reason: Reason, asked: Asked, book: Named, 
     }
 }
 
-// Puts why a launch is refused: of a slip, what is expected at the place. The file stands in the first bytes of the room, so many; those from the place on are
-// lost.
-pub fn put_why(
-    out: &mut [u8],
-    reason: Reason,
-    place: usize,
-    slip: bool,
-    asked: Asked,
-    book: Named,
-    name: &[u8],
-    room: &mut [u8],
-    len: usize,
-) -> usize {
+// Puts why a launch is refused for its numbers, its book or the groups of its file. Its body is that of `refusal_head::put_head`: a printer on the run, one
+// call, the place. One function for both would take the call as a closure, and the two would be no shorter.
+pub fn put_why(out: &mut [u8], reason: Reason, asked: Asked, book: Named, file: Named) -> usize {
     let mut printer = Printer { bytes: out, at: 0 };
-    if slip {
-        put_expected(&mut printer, room, place);
-        printer.put_bytes(b"\n");
-    } else {
-        let text = front(room, len);
-        put_reason(&mut printer, reason, asked, book, Named { name, text });
-    }
+    put_reason(&mut printer, reason, asked, book, file);
+    printer.at
+}
+
+// Puts what is expected at the place where the file in the room is refused. What stands in the room from there on is lost.
+pub fn put_slip(out: &mut [u8], room: &mut [u8], place: usize) -> usize {
+    let mut printer = Printer { bytes: out, at: 0 };
+    put_expected(&mut printer, room, place);
+    printer.put_bytes(b"\n");
     printer.at
 }

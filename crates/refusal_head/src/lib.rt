@@ -17,7 +17,8 @@ pub struct Named<'a> {
     pub text: &'a [u8],
 }
 
-// Puts the reason and the place.
+// Puts the reason and the place. The two stay apart, and the slip from both: each is asked for alone somewhere, and the definitions take them one by
+// one.
 fn put_error(printer: &mut Printer, reason: Reason, place: usize)
     ensures { Puts printer.old printer.new (error_line reason place) }
 {

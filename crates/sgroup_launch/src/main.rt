@@ -4,8 +4,10 @@
 ghost use Rattle.std.specs.Prelude.{◌≡◌, length, take};
 ghost use Rattle.sgroup_launch.specs.Report.{report, report_sure};
 
+use answers::Reason;
 use launch_expected::front;
 use launch_why::Asked;
+use refusal_head::Named;
 use std::env::{Env, FillError};
 use std::fs::File;
 use std::io::Write;
@@ -133,17 +135,17 @@ fn name_arg(rt: &HostRuntime, i: usize, name: &mut [u8]) -> Option<usize> {
 }
 
 // Launches, and puts what is to be said of it. The file stands in the first bytes of the room, so many; of a slip, those from its place on are lost.
+// The file is no `Named` here, as in `launch_refusals`.
 fn put_report(
     out: &mut [u8],
     asked: Asked,
-    book_name: &[u8],
-    book: &[u8],
+    book: Named,
     name: &[u8],
     room: &mut [u8],
     len: usize,
 ) -> usize
-    ensures { take (report_sure asked book.now name.now (take len room.old) result) (take result out.new)
-        ≡ take (length out.old) (report asked book.now name.now (take len room.old)) }
+    ensures { take (report_sure asked book.entry.text.now name.now (take len room.old) result) (take result out.new)
+        ≡ take (length out.old) (report asked book.entry.text.now name.now (take len room.old)) }
 {
     let mut table = [0u64; layout::TABLE_WORDS];
     let launched = launch::launch(
@@ -151,25 +153,15 @@ fn put_report(
         asked.n,
         asked.hidden,
         asked.start,
-        book,
+        book.text,
         front(room, len),
     );
     let answer = launched.answer;
     let reason = answer.reason;
-    if answers::number(reason) == 0 {
-        return launch_report::put_launched(out, book, asked.n, asked.start, &table);
+    if reason == Reason::Done {
+        return launch_report::put_launched(out, book.text, asked.n, asked.start, &table);
     }
-    launch_refusals::put_refusal(
-        out,
-        reason,
-        launched.place,
-        asked,
-        book_name,
-        book,
-        name,
-        room,
-        len,
-    )
+    launch_refusals::put_refusal(out, reason, launched.place, asked, book, name, room, len)
 }
 
 // Reads the book and the file of these names into their rooms, launches, and writes out what is said of it; nothing where it said why a file cannot be read.
@@ -184,15 +176,11 @@ fn run_named(
 ) -> Option<ExitCode> {
     let book_len = load(rt, book_name, BOOK_LIMIT, book)?;
     let len = load(rt, name, FILE_LIMIT, room)?;
-    let said = put_report(
-        out,
-        asked,
-        book_name,
-        front(book, book_len),
-        name,
-        room,
-        len,
-    );
+    let named = Named {
+        name: book_name,
+        text: front(book, book_len),
+    };
+    let said = put_report(out, asked, named, name, room, len);
     if let Err(error) = rt.stdout().write_all(front(out, said)) {
         return Some(loading::fail_to_write(
             &mut rt.stderr(),

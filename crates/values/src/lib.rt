@@ -1,4 +1,4 @@
-// Skipping the value of a pair: an atom, a number, or a list or a tuple of values, nested to a depth.
+// Skipping the value of a pair: an atom, a number, or a list or a tuple of values, nested to a depth. The text and the place are two parameters, as in `tokens`.
 #![tactic(auto)]
 
 ghost use Rattle.std.specs.Prelude.{◌≡◌, ◌≤◌, ◌<◌, Err, length};
@@ -76,7 +76,8 @@ fn next_item(text: &[u8], at: usize, close: u8, opened: bool) -> usize
     n
 }
 
-// Skips the items that are no brackets, and the first bracket, which closes or opens.
+// Skips the items that are no brackets, and the first bracket, which closes or opens. A loop by a place: each item says where the next one begins, and
+// the answer is the place where they end or stop, which no item has.
 fn flat(text: &[u8], at: usize, close: u8, opened: bool) -> usize
     requires { at ≤ length text.now }
     ensures { ToBracket close text.now at opened (skip_of_number result) }
@@ -109,7 +110,8 @@ fn flat(text: &[u8], at: usize, close: u8, opened: bool) -> usize
 }
 
 // Skips the items of a list and its closing bracket, from behind the opening one. Lists and tuples nest, each holding the other, so the skippers of both call each
-// other, with the depth that is left falling. Two functions and not one with the bracket as a parameter: the form that the project has for them (docs/DECISIONS.md).
+// other, with the depth that is left falling. Two functions and not one with the bracket as a parameter, since the scope of the project has the skippers for lists
+// and tuples call each other (01; docs/DECISIONS.md, "The form with two functions that call each other"). A loop by a place in each, as in `flat`.
 #[cycle(skip_list_skip_tuple)]
 fn skip_list(text: &[u8], at: usize, depth: usize) -> usize
     requires { at ≤ length text.now }

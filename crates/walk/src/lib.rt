@@ -1,5 +1,5 @@
 // Walking the groups of a launch file: each function reads one thing at a place of the text, and answers the place behind it or, as an error, the place where it
-// stops.
+// stops. The text and the place are two parameters, as in `tokens`.
 #![tactic(auto)]
 
 ghost use Rattle.std.specs.Prelude.{◌≡◌};
@@ -10,7 +10,8 @@ ghost use Rattle.walk.specs.Along.{nodes_left};
 
 use tokens::{Atom, Token, past_white};
 
-// A node of a group: behind it stands a comma, and the place is behind that; or it is the last one, and the place is behind the whole group.
+// A node of a group: behind it stands a comma, and the place is behind that; or it is the last one, and the place is behind the whole group. Either was
+// read, so it is no Result: neither is an error.
 #[derive(Clone, Copy)]
 pub enum Node {
     More(Atom),
@@ -24,7 +25,8 @@ pub struct Nodes<'a> {
     at: Option<usize>,
 }
 
-// What stands in the list of groups: a group, and the place behind its bracket; or the end of the list, and the place behind that.
+// What stands in the list of groups: a group, and the place behind its bracket; or the end of the list, and the place behind that. Either
+// was read, so it is no Result; and both have a place, so it is no Option.
 #[derive(Clone, Copy)]
 pub enum Entry {
     Group(usize),
@@ -152,7 +154,8 @@ impl<'a> Iterator for Nodes<'a> {
     }
 }
 
-// The rest of a group, from its first node or from behind a comma.
+// The rest of a group, from its first node or from behind a comma. A loop by a place: each node says where the next one stands, and the answer is the
+// place where the nodes end or stop, which no item of `Nodes` has.
 #[tactic(auto, using(crate::proofs::Steps::node_steps))]
 pub fn pass_nodes(text: &[u8], at: usize) -> Result<usize, usize>
     ensures { result ≡ pass_nodes text.now at }
@@ -166,7 +169,7 @@ pub fn pass_nodes(text: &[u8], at: usize) -> Result<usize, usize>
     }
 }
 
-// The groups, from behind the bracket of their list to behind the one that closes it.
+// The groups, from behind the bracket of their list to behind the one that closes it. A loop by a place, as in `pass_nodes`.
 #[tactic(auto, using(crate::proofs::Steps::group_steps))]
 pub fn pass_groups(text: &[u8], at: usize) -> Result<usize, usize>
     ensures { result ≡ pass_groups text.now at }

@@ -1,14 +1,14 @@
 -- `launch_file::next_pair` meets its contract: what stands in the list decides. Assumes nothing.
 use borrow.Author.Rules.{part_to_end}
 use Rattle.std.proofs.Common.{Ok, sym, ap, ◌∙◌, arith}
-use Rattle.std.proofs.lemmas.Result.{err_from_is_err_and}
 use Rattle.launch_file.specs.Pairs.{next-stops, next-pairs, next-closed, next-missing, closed-within}
+use Rattle.launch_file.proofs.Exits.{handed_on}
 use Rattle.launch_file.proofs.next_pair.Goals as goal
 
 pub returns-in_err-n : goal.returns-in_err-n
 returns-in_err-n c =
-    let p = err_from_is_err_and c.from_residual.result c.from_residual.ensures.1 in
-    rw (p.1, p.2) (next-stops _ _ _ _ _ _ (rw (part_to_end c.args.text.now 0) at (sym c.in_err-n.ensures)))
+    rw (handed_on c.from_residual.result c.from_residual.ensures.1)
+    (next-stops _ _ _ _ _ _ (rw (part_to_end c.args.text.now 0) at (sym c.in_err-n.ensures)))
 
 pub overflow_sub-result : goal.overflow_sub-result
 overflow_sub-result c =

@@ -1,16 +1,14 @@
 -- `launch_file::pair_at` meets its contract: the atom decides, and whether it is the own key. Assumes nothing.
 use Rattle.std.proofs.Common.{sym, ◌∙◌, arith}
-use Rattle.std.proofs.lemmas.Result.{err_from_is_err_and}
 use Rattle.tokens.specs.Words.{same_bytes}
 use Rattle.walk.specs.Walk.{part}
 use Rattle.walk.specs.Unfold.{atom-ahead}
 use Rattle.launch_file.specs.Pairs.{pair-stops, pair-own, pair-other}
+use Rattle.launch_file.proofs.Exits.{handed_on}
 use Rattle.launch_file.proofs.pair_at.Goals as goal
 
 pub returns-in_err-name : goal.returns-in_err-name
-returns-in_err-name c =
-    let p = err_from_is_err_and c.from_residual.result c.from_residual.ensures.1 in
-    rw (p.1, p.2) (pair-stops _ _ _ _ _ (sym c.in_err-name.ensures))
+returns-in_err-name c = rw (handed_on c.from_residual.result c.from_residual.ensures.1) (pair-stops _ _ _ _ _ (sym c.in_err-name.ensures))
 
 pub slice_bounds-eq-count : goal.slice_bounds-eq-count
 slice_bounds-eq-count c = omega (arith, (atom-ahead _ _ _ (sym c.in_ok-name.ensures)).1.0)

@@ -5,10 +5,6 @@ use native.Mathlib.Omega.{arith}
 use Rattle.tokens.specs.Within.{passes-four}
 use Rattle.tokens.proofs.long_run.Goals as goal
 
-pub returns-then-not-four-2 : goal.returns-then-not-four-2
-returns-then-not-four-2 c =
-    c.run-then-not-four-2.ensures ∙ sym (passes-four c.args.class _ _ _ c.loop-i.invariant.1 (sym c.four.ensures ∙ c.if-not-four.false))
-
 pub loop-i-preserved : goal.loop-i-preserved
 loop-i-preserved c =
     let l = c.loop-i in

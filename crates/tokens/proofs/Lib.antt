@@ -1,0 +1,2 @@
+-- Laws that the functions' proofs rest on.
+pub mod Steps

@@ -5,7 +5,6 @@ use mathlib.Core.Bool.{Bool, true, false, not, true≢false}
 use mathlib.Core.List.{List}
 use Prim.Native.Nat.{ℕ, ◌%◌}
 use native.Mathlib.Omega.{arith}
-use lib.Seq.{length-take-le}
 use Rattle.std.specs.Option.{is_some}
 use Rattle.tokens.specs.Reserved.{among}
 use Rattle.book_index.specs.Layout.{mark_count, has_mark}

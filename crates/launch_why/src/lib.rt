@@ -2,7 +2,7 @@
 #![tactic(auto)]
 
 use answers::Reason;
-use launch_expected::{front, put_expected};
+use launch_expected::front;
 use launch_faults::{Fault, Spot, Stranger};
 use print::Printer;
 use reader::Reader;
@@ -169,13 +169,5 @@ fn put_reason(printer: &mut Printer, reason: Reason, asked: Asked, book: Named, 
 pub fn put_why(out: &mut [u8], reason: Reason, asked: Asked, book: Named, file: Named) -> usize {
     let mut printer = Printer { bytes: out, at: 0 };
     put_reason(&mut printer, reason, asked, book, file);
-    printer.at
-}
-
-// Puts what is expected at the place where the file in the room is refused. What stands in the room from there on is lost.
-pub fn put_slip(out: &mut [u8], room: &mut [u8], place: usize) -> usize {
-    let mut printer = Printer { bytes: out, at: 0 };
-    put_expected(&mut printer, room, place);
-    printer.put_bytes(b"\n");
     printer.at
 }

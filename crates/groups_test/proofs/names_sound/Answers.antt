@@ -1,9 +1,8 @@
 -- `groups_test::names_sound` meets its contract: every s_group passed has a sound namespace.
 -- Assumes nothing.
-use mathlib.Core.Path.{sym, ap, ◌∙◌}
+use mathlib.Core.Path.{sym, ap₂, ◌∙◌}
 use native.Mathlib.Omega.{arith}
 use Rattle.entries.specs.NamespaceSound.{sound_words}
-use Rattle.semantics.specs.Soundness.{names_of}
 use Rattle.free_test.specs.Below.{below_none, below_step}
 use Rattle.groups_test.specs.GroupTests.{names_right}
 use Rattle.groups_test.specs.GroupsBelow.{below_fails}
@@ -16,8 +15,8 @@ pub returns-then-not-is_sound : goal.returns-then-not-is_sound
 returns-then-not-is_sound c =
     let t = c.args.t in
     sym (below_fails t.count (names_right t.cap t.words.now c.args.n) c.loop-i.i (omega arith)
-    (sym (rw (c.body.ensures, c.name_count-count.ensures) at c.is_sound.ensures) ∙ c.if-not-is_sound.true))
+    (sym (c.is_sound.ensures ∙ ap₂ (sound_words c.args.n) c.name_count-count.ensures c.body.ensures) ∙ c.if-not-is_sound.true))
 
 pub loop-i-preserved : goal.loop-i-preserved
 loop-i-preserved c =
-    rw (below_step, c.loop-i.invariant) (sym (rw (c.body.ensures, c.name_count-count.ensures) at c.is_sound.ensures) ∙ c.if-not-is_sound.false)
+    rw (below_step, c.loop-i.invariant) (sym (c.is_sound.ensures ∙ ap₂ (sound_words c.args.n) c.name_count-count.ensures c.body.ensures) ∙ c.if-not-is_sound.false)

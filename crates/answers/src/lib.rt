@@ -84,14 +84,14 @@ pub fn refused(reason: Reason) -> Answer
     said(Value::Error, reason)
 }
 
-// The number that document 01 gives a reason: its place in the enum.
+// The number that document 01 gives a reason: its place in the enum. An impl of `From` would be the same cast in more lines, and no derive gives one.
 pub fn number(reason: Reason) -> u32
     ensures { result ≡ number reason }
 {
     reason as u32
 }
 
-// The place of a value's output word among those of document 01, from 1.
+// The place of a value's output word among those of document 01, from 1. An impl of `From` would hold the same match: `as` takes no enum with fields.
 pub fn kind(value: Value) -> u32
     ensures { result ≡ kind value }
 {

@@ -41,6 +41,7 @@ fn among(numbers: &[u16], number: u16) -> bool
     numbers.iter().any(|other| *other == number)
 }
 
+// A place and a count of places have one bound each, which a type for either would not say more plainly.
 impl Plan {
     // A plan that nothing was written to.
     pub fn new() -> Self

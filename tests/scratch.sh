@@ -19,12 +19,13 @@ crates=$(awk -F: -v top="$library" '
     }' crates.txt)
 
 # Lines of a crate's code with an array of one element or more that takes room in a call: its type, or how it is made, of one value or of several, or a copy of one that
-# is borrowed, or a new plan. A borrowed array, a static and the name of a type take none.
+# is borrowed, or a new plan. The type of a borrowed array of words, a static and the name of a type
+# take none; an array that is made where it is borrowed takes room.
 arrays() {
-    local code borrowed
+    local code borrowed word='(u8|u16|u32|u64|usize|bool)'
     code=$(find "crates/$1/src" -name '*.rt' -exec sed 's,//.*,,' {} +)
     borrowed=$(grep -oE "[a-z_]+: &('[a-z]+ )?(mut )?(\[[^];[]+; *[^]]+\]|Index\b)" <<<"$code" | sed 's/:.*//' | sort -u | paste -sd'|')
-    sed -E "/^(pub )?(static|type) /d; s/&('[a-z]+ )?(mut )?(\[\[[^];[]+; *[^]]+\]\]|\[[^];[]+; *[^]]+\])/\&/g" <<<"$code" |
+    sed -E "/^(pub )?(static|type) /d; s/&('[a-z]+ )?(mut )?(\[\[$word; *[^]]+\]\]|\[$word; *[^]]+\])/\&/g" <<<"$code" |
         grep -E '\[[^];[]+; *[^]]*[^] 0]+[^]]*\]|= *\[[^]]*,|Plan::new\('"${borrowed:+|[=(,] *\*($borrowed)[;,)]}"
 }
 

@@ -25,7 +25,7 @@ pub enum Value {
     Listed(usize),
 }
 
-// Why, in the order of the numbers.
+// Why, in the order of the numbers. `Done` is reason 0 of document 01, which stands beside a value as the others do: an answer has both, and is no Result.
 #[derive(Clone, Copy, PartialEq, Eq)]
 pub enum Reason {
     Done,

@@ -1,6 +1,6 @@
-// The name book of a launch: one atom a line, those of the nodes first, in the order of the roster, then those of the groups.
-// An index of 512 lent bytes is made while a book is tested; it leads from an atom to its line. What makes it takes the text, the number of nodes and the index side
-// by side: a struct with a fact has one fact, and here each function knows another (`Holds`, `Places`, `Reading`, `Noted`), up to that of `Book` at the end.
+// The name book of a launch: one atom a line, those of the nodes first, in the order of the roster, then those of the groups. An index of 512 lent bytes is
+// made while a book is tested; it leads from an atom to its line. What makes it takes the text, the number of nodes and the index side by side: the facts of a
+// struct are the same for all its functions, and here each knows another (`Holds`, `Places`, `Reading`, `Noted`), up to that of `Book` at the end.
 #![tactic(auto)]
 
 ghost use Rattle.std.specs.Prelude.{◌≡◌, true, not, ◌&&◌, [], ◌≤◌, ◌<◌, leb, length, get_or, take, IfSome};
@@ -145,7 +145,7 @@ fn is_new(book: &[u8], at: usize, count: usize, atom: &[u8], index: &mut Index) 
     seek(&book[..at], &atom[0..]).is_none()
 }
 
-// Whether a text is a book for n nodes. Where it is, the numbers of the index are those of the book.
+// Whether a text is a book for n nodes. Where it is, the numbers of the index are those of the book. A loop by a place, as in `plain_book::fits`.
 #[tactic(auto, using(crate::specs::Passing::line_found))]
 fn read(book: &[u8], n: u32, index: &mut Index) -> bool
     ensures { (result ≡ fit n book.now) × (result ≡ true → Noted n book.now index.new) }
@@ -208,7 +208,7 @@ pub fn fit(book: &[u8], n: u32, index: &mut Index) -> bool
 }
 
 impl Book<'_> {
-    // The line that an atom is, where a hint leads to it.
+    // The line that an atom is, where a hint leads to it. The place wraps, and so is stepped by hand.
     fn hinted(&self, atom: &[u8]) -> Option<usize>
         ensures { IfSome result (λ j. (j < indexed_lines) × (j < length (lines self.now.text.now)) × (get_or (lines self.now.text.now) j [] ≡ atom.now)) }
     {

@@ -61,7 +61,8 @@ pub fn clear(index: &mut Index)
     index[..HINTS].fill(0);
 }
 
-// The first free place for a hint from a place on, or any where none is free.
+// The first free place for a hint from a place on, or any where none is free: no Option, since fewer lines get a hint than there are places, and no promise rests on
+// which place it is. The place wraps, and so is stepped by hand.
 pub fn free(index: &Index, from: usize) -> usize
     requires { from < hint_count }
     ensures { result < hint_count }

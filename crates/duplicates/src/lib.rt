@@ -1,5 +1,6 @@
-// Groups of one name in a launch file. The groups are not stored: g is the place behind the bracket of their list, and each function walks the text from there. A
-// text and its places come side by side, as in `walk`: callers hold the text and have another place each time, so that a struct of both would be made for every call.
+// Groups of one name in a launch file. The groups are not stored: g is the place behind the bracket of their list, and each function walks the text from there.
+// A text and its places come side by side, as in `walk`: callers hold the text and have another place each time, so that a struct of both would be made for
+// every call.
 #![tactic(auto)]
 
 ghost use Rattle.std.specs.Prelude.{◌≡◌, false, not, ◌||◌, take};

@@ -18,7 +18,7 @@ pub enum Refusal {
     Unfit,
 }
 
-// What a lookup tells of a held name by a set of nodes: its pid, whose host is in the set or outside it.
+// What a lookup tells of a held name by a set of nodes: its pid, whose host is in the set or outside it. Either tells a pid, so that it is no Result.
 #[derive(Clone, Copy)]
 pub enum Seen {
     Inside(u32),

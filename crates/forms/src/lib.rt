@@ -119,7 +119,7 @@ fn number_by(word: Word, arguments: usize) -> u32
     }
 }
 
-// The number of the command with the word s and so many arguments, or NONE.
+// The number of the command with the word s and so many arguments, or NONE. No Option: `number_of` of forms/Forms, which the clause cites, gives 0 for no command.
 pub fn number(s: &[u8], arguments: usize) -> u32
     ensures { result ≡ number_of s.now arguments }
 {
@@ -130,6 +130,7 @@ pub fn number(s: &[u8], arguments: usize) -> u32
 }
 
 // The command of a number: its arguments of 32 bits are a, b and c in their order, and set is its set of nodes.
+// The arguments stand side by side as C gives them; what is made of them here is the struct of a command.
 #[tactic(auto, unfolding(crate::specs::Forms::command_of, crate::specs::Forms::form_of, crate::specs::Forms::form_from, crate::specs::Forms::forms))]
 pub fn command_of(number: u32, a: u32, b: u32, c: u32, set: u64) -> Option<Command>
     ensures { result ≡ command_of number a b c set }

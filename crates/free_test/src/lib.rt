@@ -1,5 +1,6 @@
-// The tests of free normal groups and of members' connections, which stand in runs of one word a node. Each loop gathers what is wrong and looks at it once, at
-// the end: a sound table has to be passed whole, and a loop that stops early takes longer there (tried in plain Rust with `all_zero`: four times as long on 32 words).
+// The tests of free normal groups and of members' connections, which stand in runs of one word a node. Each loop gathers what is wrong and looks at it once,
+// at the end: a sound table has to be passed whole, and a loop that stops early takes longer there (tried in plain Rust with `all_zero`: four times as long on
+// 32 words).
 #![tactic(auto)]
 
 ghost use Rattle.std.specs.Prelude.{◌≡◌, ◌≤◌, ◌<◌, length};
@@ -58,7 +59,8 @@ pub fn known_met(known: &[u64; NODE_WORDS], set: u64) -> bool
     subset(set, common)
 }
 
-// The free normal group of node i, from its connections and the free normal nodes.
+// The free normal group of node i, from its connections and the free normal nodes: by shifts, without the test of i against 64 that `nodes::has` and `with`
+// make. That i is below is asked as in `connecting::link`.
 fn freely(loose: u64, i: usize, word: u64) -> u64
     requires { i < node_limit }
     ensures { result ≡ freely loose i word }

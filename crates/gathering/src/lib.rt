@@ -11,7 +11,8 @@ use layout::GROUP_LIMIT;
 use pairs::{Made, Plan};
 use walk::{Entry, Node};
 
-// The nodes from a place on, by the book, and the place behind their group; none where one is not on the roster, or the text stops.
+// The nodes from a place on, by the book, and the place behind their group; none where one is not on the roster, or the text stops. A loop by a place, here and
+// in `gather`: the place behind is answered, which no item of an iterator has.
 fn nodes_at(text: &[u8], at: usize, book: &Book) -> Option<(u64, usize)>
     ensures { IfSome result (λ r. Noded book.now.nodes book.now.text.now text.now at 0 r.0 r.1) }
 {

@@ -1,4 +1,5 @@
-// The tests of the s_groups of a table, whose s_groups hold at most `cap` names each.
+// The tests of the s_groups of a table, whose s_groups hold at most `cap` names each. The loops gather, as in `free_test`, and go by an index, which is the
+// place of an s_group.
 #![tactic(auto)]
 
 ghost use Rattle.std.specs.Prelude.{◌≡◌, ◌≤◌, ◌<◌, length};
@@ -34,8 +35,8 @@ impl<'a> Counted<'a> {
     }
 }
 
-// The nodes in an s_group, where the names of the s_groups ascend from 1, their counts of names are within the capacity, each has a member, and all members are among the
-// first n nodes; none where something is wrong with contents or members.
+// The nodes in an s_group, where the names of the s_groups ascend from 1, their counts of names are within the capacity, each has a member, and all members are
+// among the first n nodes; none where something is wrong with contents or members.
 pub fn grouped_nodes(t: Counted<'_>, n: u32) -> Option<u64>
     ensures { result ≡ grouped_of t.entry.cap t.entry.words.now t.entry.count n }
 {

@@ -16,7 +16,7 @@ use indexes::{group_of, key_of};
 use layout::{GROUP_NAMES, ROW_WORDS};
 use sound_table::SoundTable;
 
-// S_group and name of each row, to the front of the run.
+// S_group and name of each row, to the front of the run. By an index into `out`, as in `namespace::list_names`.
 fn list_rows(rows: &[[u64; ROW_WORDS]], out: &mut [u64])
     requires { row_words * length rows.now ≤ length out.old }
     ensures { out.new ≡ named (as_rows rows.now) ++ drop (row_words * length rows.now) out.old }

@@ -68,7 +68,8 @@ pub fn call(
     refused(Reason::IndexWrong)
 }
 
-// The refusal of an opening whose run for the index has not an index's length: reasons 1 and 2 stand before.
+// The refusal of an opening whose run for the index has not an index's length: reasons 1 and 2 stand before. Their tests are made here too, since
+// `opening::open` would open the table where neither holds.
 fn misfit(table: &[u64], n: u32) -> Answer
     ensures { (hidden : ℕ) (x : List ℕ) → (length x ≡ index_words names_per_group → ⊥) → result ≡ (opened n hidden table.now x).given.answer }
 {

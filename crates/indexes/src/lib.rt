@@ -17,7 +17,7 @@ pub enum Update {
     Gone(u32, u64),
 }
 
-// The key of a pid in an s_group.
+// The key of a pid in an s_group. It has halves, as the words of a namespace in `entries`, but it is none of these.
 pub fn key_of(p: u32, s: u32) -> u64
     ensures { result ≡ key_of p s }
 {

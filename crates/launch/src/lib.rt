@@ -177,7 +177,8 @@ fn at_once(
 }
 
 // Opens the table for n nodes, some of them hidden, and makes the s_groups of the launch file: their atoms and those of their nodes have their numbers by the
-// book; start is the node that is started.
+// book; start is the node that is started. The tests of `opening::open` are made here too: reading stands between them and the opening. The arguments come side
+// by side as C gives them, here and in the functions above, whose facts `Open` and `InOrder` are of the run too.
 pub fn launch(t: &mut [u64], n: u32, hidden: u64, start: u32, book: &[u8], file: &[u8]) -> Launched
     ensures answer_value { result.answer ≡ (launch n hidden start book.now file.now t.old).answer }
     ensures place_value { result.place ≡ (launch n hidden start book.now file.now t.old).place }

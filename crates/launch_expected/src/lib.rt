@@ -1,4 +1,5 @@
-// What a launch file has at the place where a text stops being one, in words. The reader is asked: it reads the text in front of the place with other bytes behind it.
+// What a launch file has at the place where a text stops being one, in words. The reader is asked: it reads the text in front of the place with other bytes
+// behind it.
 #![tactic(auto)]
 
 ghost use Rattle.std.specs.Prelude.{◌≡◌, min, length, take};

@@ -1,5 +1,6 @@
-// Reading a whole launch file: the pairs of the file and of its kernel entry, the list of groups, the full stop. The text and the place are two parameters, as in
-// `tokens`; `reader` has both in a struct, for messages.
+// Reading a whole launch file: the pairs of the file and of its kernel entry, the list of groups, the full stop. The text and the place are two parameters, as
+// in `tokens`; `reader` has both in a struct, for messages. So are `own`, the key that a list has to hold, and `found`, whether it has been: a loop has one
+// `own` for all its pairs, and knows `found`.
 #![tactic(auto)]
 
 ghost use Rattle.std.specs.Prelude.{Ok, ◌≡◌, true, cond, ℕ};

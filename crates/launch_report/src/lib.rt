@@ -39,7 +39,7 @@ impl Atoms<'_> {
         }
     }
 
-    // Puts the atoms of a set of nodes.
+    // Puts the atoms of a set of nodes. Over all nodes, as `members_from` of launch_report/Launched.
     fn put_members(&self, printer: &mut Printer, set: u64)
         ensures { Puts printer.old printer.new (members_from node_limit 0 self.now.book.now set) }
     {

@@ -130,7 +130,8 @@ fn put_unlisted(printer: &mut Printer, file: Named, g: usize, book: &[u8], n: u3
     printer.put_bytes(b" lines of the book\n");
 }
 
-// Why the groups of a file are refused.
+// Why the groups of a file are refused. Reason, numbers, book and file come side by side, here and in the two below: a struct of the four would be made by
+// `put_why` and taken apart at once.
 fn put_groups(printer: &mut Printer, reason: Reason, asked: Asked, book: &[u8], file: Named) {
     let Ok(g) = Reader::new(file.text).read() else {
         return;

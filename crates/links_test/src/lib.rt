@@ -1,4 +1,5 @@
-// The test of connections: each stays on the roster, and goes both ways. Pair by pair, or by turning the words about their diagonal.
+// The test of connections: each stays on the roster, and goes both ways. Pair by pair, or by turning the words about their diagonal. The loops gather, as in
+// `free_test`, and go by an index, which is the number of a node or of a row.
 #![tactic(auto)]
 
 ghost use Rattle.std.specs.Prelude.{◌≡◌, ◌+◌, ◌≤◌, ◌<◌, length};
@@ -109,7 +110,8 @@ fn exchange(rows: &mut [u64; UNIT], apart: usize, j: u32, mask: u64)
     }
 }
 
-// Turns the 8 rows from start on, each 8 columns by themselves, and writes them to the same place.
+// Turns the 8 rows from start on, each 8 columns by themselves, and writes them to the same place. They are read and written one by one: they stand in registers
+// (docs/DECISIONS.md, "Turning connections"), and no copy of them does.
 fn turn_unit(links: &[u64; NODE_WORDS], start: usize, turned: &mut [u64; NODE_WORDS])
     requires { start + unit_rows ≤ node_limit }
     ensures { UnitTurned start links.now turned.old turned.new }

@@ -26,6 +26,7 @@ const SLOT_DIGIT: u64 = 4194304;
 const TURN: usize = 4;
 
 // Whether every word is zero. It looks at all of them: `all`, which stops early, takes four times as long on 32 words of zero (tried in plain Rust).
+// `free_test` has the same of its own: its clause cites `all_zero` of free_test/WireTests, and neither crate stands on the other.
 fn all_zero(words: &[u64]) -> bool
     ensures { result ≡ all_zero words.now }
 {

@@ -122,7 +122,7 @@ impl Iterator for Members {
     }
 }
 
-// The word at i, and the empty set past the end.
+// The word at i, and the empty set past the end, as `word_at` of nodes/NodeSets has it.
 pub fn word_at(words: &[u64], i: usize) -> u64
     ensures { result ≡ word_at words.now i }
 {
@@ -140,7 +140,7 @@ pub fn unions_at(words: &[u64], set: u64) -> u64
     all
 }
 
-// The union of the first n words. Where there are fewer, of all.
+// The union of the first n words. Where there are fewer, of all: no part is asked for, since `connecting` takes n from the table and does not know that it fits.
 pub fn union_all(words: &[u64], n: usize) -> u64
     ensures { result ≡ union_all (take n words.now) }
 {

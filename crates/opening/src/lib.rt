@@ -11,6 +11,7 @@ use layout::{BODIES_AT, FREE_AT, HIDDEN_AT, NODE_LIMIT, SIZE_AT, TABLE_WORDS};
 use nodes::Members;
 
 // Each node of the set stands in its own word, alone. By an index: once the borrow of `get_mut` is over, a proof knows nothing of what was written through it.
+// A loop beside that of `rewiring`, which writes one word everywhere: here each node has its own.
 fn alone(words: &mut [u64], set: u64)
     ensures { words.new ≡ mapi (λ i w. cond (has set i) (with_node 0 i) w) 0 words.old }
 {

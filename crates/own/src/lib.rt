@@ -29,6 +29,7 @@ fn shared_members(members: &[u64], node: u32) -> u64
 }
 
 // The nodes of the node's groups: its free group, or those of its s_groups, or itself alone.
+// That the node is below the limit is asked as in `connecting::link`.
 fn own_set(t: SoundTable<'_>, node: u32) -> u64
     requires { node < node_limit }
     ensures { result ≡ own_set node (state_of names_per_group t.entry.words.now) }
@@ -65,7 +66,7 @@ fn own_length(members: &[u64], node: u32) -> usize
 }
 
 // The name and the members of each of the s_groups that have the node, in the run. Contents and members are two runs, since a table has them in two sections
-// (`contents_at` and `members_at` of semantics/Sizes); `zip` goes over both.
+// (`contents_at` and `members_at` of semantics/Sizes); `zip` goes over both. By an index into `out`, as in `namespace::list_names`.
 fn write_own(contents: &[u64], members: &[u64], node: u32, out: &mut [u64])
     requires { length (own_words node contents.now members.now) ≤ length out.old }
     ensures { out.new ≡ listed_over (own_words node contents.now members.now) out.old }

@@ -15,8 +15,8 @@ pub struct Made {
     pub set: u64,
 }
 
-// Room for as many as a table can have, numbers and sets in runs of their own: together they take 320 bytes of stack, where a run of `Made` takes 512 and a launch would
-// need more than it may.
+// Room for as many as a table can have, numbers and sets in runs of their own: together they take 320 bytes of stack, where a run of `Made` takes 512 and a
+// launch would need more than it may.
 #[derive(Drop)]
 pub struct Plan {
     numbers: [u16; GROUP_LIMIT],
@@ -41,7 +41,8 @@ fn among(numbers: &[u16], number: u16) -> bool
     numbers.iter().any(|other| *other == number)
 }
 
-// A place and a count of places have one bound each, which a type for either would not say more plainly.
+// A place and a count of places have one bound each, which a type for either would not say more plainly. The count comes beside the plan, in `gathering`,
+// `creating` and `launch` too: `plan::fitted` counts on past the room, since of more s_groups than there is room for it tells that they are too many.
 impl Plan {
     // A plan that nothing was written to.
     pub fn new() -> Self

@@ -10,7 +10,8 @@ use answers::Reason;
 use layout::group_name;
 use sound_table::SoundTable;
 
-// The place of the name among contents words, which ascend by name: where it stands, or where it would be put.
+// The place of the name among contents words, which ascend by name: where it stands, or where it would be put. Not by `binary_search`: `place_in` of
+// place/Place is promised at every content, and what the library promises is of runs in order.
 fn place_in(contents: &[u64], s: u32) -> Result<usize, usize>
     ensures { result ≡ place_in 0 s contents.now }
 {

@@ -34,6 +34,7 @@ pub fn fits(book: &[u8], n: u32) -> bool
     book::group_count(i, n).is_some()
 }
 
+// Both methods are as those of `book::Book` but for the search: a trait with the search and its law would be longer than the two.
 impl PlainBook<'_> {
     // The place of an atom among the node atoms; none where it is none of them.
     #[tactic(auto, using(book::specs::Finding::node_placed))]

@@ -12,7 +12,8 @@ use answers::{Answer, Value};
 // The most digits that a number of 64 bits has.
 const MOST_DIGITS: usize = 20;
 
-// A run of bytes that the caller lends, printed on up to a place.
+// A run of bytes that the caller lends, printed on up to a place. Where a crate is handed a run, it makes a Printer of it, calls what puts, and answers the
+// place: that is three lines, which no function with a closure would shorten.
 #[derive(Drop)]
 pub struct Printer<'a> {
     pub bytes: &'a mut [u8],
@@ -30,7 +31,7 @@ impl Printer<'_> {
         }
     }
 
-    // Puts bytes.
+    // Puts bytes, one by one, since those that do not fit are dropped.
     pub fn put_bytes(&mut self, s: &[u8])
         ensures { Puts self.old self.new s.now }
     {
@@ -65,7 +66,7 @@ impl Printer<'_> {
         }
     }
 
-    // Puts the word of a value and its numbers.
+    // Puts the word of a value and its numbers. Not by `Display`: what `{}` writes is promised of a `String` alone, which is in the heap.
     #[tactic(auto, using(crate::specs::Puts::puts_next), unfolding(crate::specs::Printed::spaced))]
     fn put_value(&mut self, value: Value)
         ensures { Puts self.old self.new (output_word value ++ spaced (numbers value)) }

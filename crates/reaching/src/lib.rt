@@ -21,7 +21,7 @@ use names::look;
 use sound_table::SoundTable;
 
 // The caller connects with the node on the way, and then with the host. Where nobody else is asked, the caller itself is the way. A function of
-// its own, so that sends stay short.
+// its own, so that sends stay short. That each node is below the limit is asked as in `connecting::link`.
 fn connect_by(t: &mut [u64], caller: u32, way: u32, host: u32)
     requires t_len { length t.old ≡ table_words names_per_group }
     requires caller_lt_node_limit { caller < node_limit }

@@ -102,8 +102,8 @@ pub fn bad_line(script: &[u8]) -> Option<usize>
 {
     let mut from = 0;
     let mut number = 1;
-    // The same walk by `first` as in `run`, so that both mean the same lines. An iterator over heads would serve this loop alone, and be longer than it is: `run` needs
-    // the place that it stands at.
+    // The same walk by `first` as in `run`, so that both mean the same lines. An iterator over heads would serve this loop alone, and be longer than it is:
+    // `run` needs the place that it stands at.
     while from < script.len() {
         let head = first(&script[from..]);
         if head.request.is_none() {

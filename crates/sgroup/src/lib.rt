@@ -22,9 +22,9 @@ pub fn call(table: &mut [u64], out: &mut [u64], caller: u32, command: Command) -
     step::step(table, out, caller, command)
 }
 
-// ---- the commands that only read: a caller may hold a table that it cannot lend for writing, as a const one of C
-// Each tests the table by itself: where one function does so and takes the step as a closure, nothing is known afterwards of the list that the closure wrote to
-// `out`, so that `out_after` stays open (tried). Their arguments stand side by side as C gives them; a `Command` bundles them for `call`.
+// ---- the commands that only read: a caller may hold a table that it cannot lend for writing, as a const one of C Each tests the table by itself: where one
+// function does so and takes the step as a closure, nothing is known afterwards of the list that the closure wrote to `out`, so that `out_after` stays open
+// (tried); the two without `out` go as the others do. Their arguments stand side by side as C gives them; a `Command` bundles them for `call`.
 
 // The names of the s_group, listed in the run.
 pub fn registered_names(table: &[u64], caller: u32, s: u32, out: &mut [u64]) -> Answer

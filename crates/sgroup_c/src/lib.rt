@@ -1,5 +1,6 @@
 // The library for C and Rust: opening, the test and the commands, with numbers for their answers. A run is passed as a pointer and a length.
-// Functions of one body stay apart, here and in `with_index`: C calls each under its own name, with arguments of its own.
+// Functions of one body stay apart, here and in `with_index`: C calls each under its own name, with arguments of its own. `commanded`, which C does not call, stands
+// in both, since what the other promises is of an index too.
 #![tactic(auto)]
 
 mod with_index;

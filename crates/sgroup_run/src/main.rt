@@ -27,6 +27,7 @@ fn main(rt: HostRuntime) -> ExitCode {
     let mut table = [0u64; layout::TABLE_WORDS];
     let mut out = [0u8; OUTPUT_ROOM];
     let mut at = 0;
+    // By a place: each run says where the next one goes on.
     while at < n {
         let ran = script::run(&text[..n], at, &mut table, &mut out);
         if let Err(error) = rt.stdout().write_all(&out[..ran.len]) {

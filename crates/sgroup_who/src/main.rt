@@ -30,7 +30,8 @@ const PID_ARG: usize = 1;
 
 const ARG_COUNT: usize = 2;
 
-// Writes a line to standard error, behind the program's name.
+// Writes a line to standard error, behind the program's name. As in `sgroup_launch`: one function for both programs would take the name too, and be as long as
+// either.
 fn complain(rt: &impl Eprint, words: &str) {
     let _ = eprintln!(rt; "sgroup_who: {words}");
 }
@@ -52,7 +53,7 @@ fn pid_arg(rt: &impl Env) -> Option<u32> {
     text::narrow(text::numeral(&digits[..len]))
 }
 
-// Runs a script on the table.
+// Runs a script on the table. By a place: each run says where the next one goes on.
 fn run_script(script: &[u8], table: &mut [u64])
     ensures { table.new ≡ left table.old (lines_from script.now 0) }
 {

@@ -9,9 +9,9 @@ ghost use Rattle.semantics.specs.Test.{sound};
 
 use layout::{CONTENTS_AT, COUNT_AT, MEMBERS_AT, SIZE_AT, name_count, own_words};
 
-// The words of a sound table. What writes (`names`, `groups`, `connecting`, `naming`, `reaching`, `grouping`, `step`) takes the bare words, with their length
-// as a fact: between its writes the table is no sound one, and a function that takes a struct with a `&mut` in it has to promise besides that the struct still
-// holds the caller's run.
+// The words of a sound table. What writes (`names`, `groups`, `connecting`, `naming`, `reaching`, `grouping`, `creating`, `step`, `indexing`) takes the bare
+// words, with their length as a fact: between its writes the table is no sound one, and a function that takes a struct with a `&mut` in it has to promise
+// besides that the struct still holds the caller's run.
 #[derive(Clone, Copy)]
 pub struct SoundTable<'a> {
     pub words: &'a [u64],

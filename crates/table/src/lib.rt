@@ -31,8 +31,8 @@ fn head_sound(size: u64, hidden: u64, count: u64, spare: u64) -> bool
     (count <= GROUP_LIMIT as u64) & ((spare == 0) & !nodes::beyond(hidden, size as u32))
 }
 
-// Whether the words of names past the s_groups that there are are zero, a namespace at a time: a single loop over all of them takes half as long again where its code
-// falls into two lines of the processor's code cache.
+// Whether the words of names past the s_groups that there are are zero, a namespace at a time: a single loop over all of them takes half as long again where
+// its code falls into two lines of the processor's code cache.
 fn bodies_zero(t: Counted<'_>) -> bool
     ensures { result ≡ all_zero (part t.entry.words.now (bodies_at + t.entry.cap * t.entry.count) (table_words t.entry.cap)) }
 {

@@ -16,7 +16,7 @@ pub fn plain(s: &[u8]) -> bool
     }
 }
 
-// The number of 64 bits that s spells.
+// The number of 64 bits that s spells. Not by `parse`, which takes a plus and zeros in front too.
 pub fn numeral(s: &[u8]) -> Option<u64>
     ensures { result ≡ numeral s.now }
 {

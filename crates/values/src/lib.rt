@@ -1,4 +1,5 @@
-// Skipping the value of a pair: an atom, a number, or a list or a tuple of values, nested to a depth. The text and the place are two parameters, as in `tokens`.
+// Skipping the value of a pair: an atom, a number, or a list or a tuple of values, nested to a depth. The text and the place are two parameters, as in
+// `tokens`, with the fact that the place is in the text.
 #![tactic(auto)]
 
 ghost use Rattle.std.specs.Prelude.{◌≡◌, ◌≤◌, ◌<◌, Err, length};

@@ -57,7 +57,7 @@ pub fn atom_at(text: &[u8], at: usize) -> Result<Atom, usize>
     }
 }
 
-// The letters of a word.
+// The letters of a word. The place goes on beside them: the sum of `at` and an index of `enumerate` might wrap, where a place at which a letter stands does not.
 #[tactic(auto, unfolding(crate::specs::Walk::letters_at))]
 fn letters_at(text: &[u8], at: usize, word: &[u8]) -> Result<usize, usize>
     ensures { result ≡ letters_at text.now at word.now }

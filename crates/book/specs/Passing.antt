@@ -23,8 +23,8 @@ unfoldable pub atom_end : List ℕ → ℕ → Option ℕ
 atom_end t at = atom_to at (found_in newline (drop at t))
 
 -- of so many lines those behind the lines of n nodes, where there is a line for each node and not too many for groups
-unfoldable pub group_count : ℕ → ℕ → Option ℕ
-group_count i n = cond (leb n i && leb (i - n) group_atoms) (Some (i - n)) None
+unfoldable pub groups_behind : ℕ → ℕ → Option ℕ
+groups_behind i n = cond (leb n i && leb (i - n) group_atoms) (Some (i - n)) None
 
 -- a line whose end is found is an atom, with a newline behind it
 pub record Ends (t : List ℕ) (at e : ℕ) : Type 0 where
@@ -83,8 +83,8 @@ end-missed t at l h = go (found_in newline (drop at t)) refl h
     go None q h = inl (found_none newline (drop at t) q)
 
 -- so many group atoms are none too many
-pub groups-counted : (i n g : ℕ) → Some g ≡ group_count i n → (n ≤ i) × (g ≡ i - n) × (g ≤ group_atoms)
-unfolding group_count
+pub groups-counted : (i n g : ℕ) → Some g ≡ groups_behind i n → (n ≤ i) × (g ≡ i - n) × (g ≤ group_atoms)
+unfolding groups_behind
 groups-counted i n g h = go (leb n i) refl (leb (i - n) group_atoms) refl h
   where
     go : (a : Bool) → leb n i ≡ a → (b : Bool) → leb (i - n) group_atoms ≡ b → Some g ≡ cond (a && b) (Some (i - n)) None → (n ≤ i) × (g ≡ i - n) × (g ≤ group_atoms)
@@ -92,15 +92,15 @@ groups-counted i n g h = go (leb n i) refl (leb (i - n) group_atoms) refl h
     go true p false q k = absurd (cc)
     go false p b q k = absurd (cc)
 
-pub groups-few : (i n g : ℕ) → Some g ≡ group_count i n → g ≤ group_atoms
+pub groups-few : (i n g : ℕ) → Some g ≡ groups_behind i n → g ≤ group_atoms
 groups-few i n g h = (groups-counted i n g h).2
 
 -- what is found of a line, and of the number of group atoms
 pub ruleset line_found = (end-ahead, end-near, end-inside, groups-few)
 
 -- there are too few lines, or too many
-pub groups-uncounted : (i n : ℕ) → None ≡ group_count i n → (i < n) ⊎ (n + group_atoms < i)
-unfolding group_count
+pub groups-uncounted : (i n : ℕ) → None ≡ groups_behind i n → (i < n) ⊎ (n + group_atoms < i)
+unfolding groups_behind
 groups-uncounted i n h = go (leb n i) refl (leb (i - n) group_atoms) refl h
   where
     go : (a : Bool) → leb n i ≡ a → (b : Bool) → leb (i - n) group_atoms ≡ b → None ≡ cond (a && b) (Some (i - n)) None → (i < n) ⊎ (n + group_atoms < i)

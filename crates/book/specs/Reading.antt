@@ -16,7 +16,7 @@ use Rattle.book.specs.Book.{longest_atom, group_atoms, lines, ended, all_atoms, 
 use Rattle.book.specs.Index.{indexed_lines, group_number, atom_mark, Marked, Holds, Places, Noted}
 use Rattle.book.specs.LineLaws.{lines-count, ended-without}
 use Rattle.book.specs.PlaceLaws.{atoms-more, atoms-spoiled, among_last, distinct_more, distinct-spoiled}
-use Rattle.book.specs.Passing.{Passed, atom_end, group_count, end-missed, groups-uncounted, first_lines, end-left, all_passed, lines_more, passed-more, lines-here, line-here}
+use Rattle.book.specs.Passing.{Passed, atom_end, groups_behind, end-missed, groups-uncounted, first_lines, end-left, all_passed, lines_more, passed-more, lines-here, line-here}
 
 -- i lines are passed, up to a place; the index has their marks, and the places of those that it has room for
 pub record Reading (t x : List ℕ) (i at : ℕ) : Type 0 where
@@ -214,7 +214,7 @@ module _ (n : ℕ) (t x : List ℕ) (i at : ℕ) (R : Reading t x i at) where
     too_many : n + group_atoms < i → fit n t ≡ false
     too_many h = unfit-many n t (omega (arith, count))
 
-    pub no-book : None ≡ group_count i n → fit n t ≡ false
+    pub no-book : None ≡ groups_behind i n → fit n t ≡ false
     no-book h = ⊎_elim (λ (k : i < n). too_few k) (λ (k : n + group_atoms < i). too_many k) (groups-uncounted i n h)
 
     module _ (enough : n ≤ i) (few : i ≤ n + group_atoms) where

@@ -10,7 +10,7 @@ ghost use Rattle.book_index.specs.Layout.{hint_count, with_mark};
 ghost use Rattle.book.specs.Book.{longest_atom, lines, fit, node_atoms, found_among, number_in};
 ghost use Rattle.book.specs.Index.{indexed_lines, atom_mark, Holds, Places, Noted, Indexed};
 ghost use Rattle.book.specs.Left.{lines_left};
-ghost use Rattle.book.specs.Passing.{atom_end, group_count};
+ghost use Rattle.book.specs.Passing.{atom_end, groups_behind};
 ghost use Rattle.book.specs.Reading.{Reading};
 
 pub use book_index::INDEX_SIZE;
@@ -93,9 +93,9 @@ pub fn atom_end(book: &[u8], at: usize) -> Option<usize>
 }
 
 // How many of so many lines are group atoms in a book for n nodes; none where they are too few or too many for a book.
-#[tactic(auto, unfolding(crate::specs::Passing::group_count))]
-pub fn group_count(count: usize, n: u32) -> Option<usize>
-    ensures { result ≡ group_count count n }
+#[tactic(auto, unfolding(crate::specs::Passing::groups_behind))]
+pub fn groups_behind(count: usize, n: u32) -> Option<usize>
+    ensures { result ≡ groups_behind count n }
 {
     let groups = count.checked_sub(n as usize)?;
     if GROUP_ATOMS < groups {
@@ -167,7 +167,7 @@ fn read(book: &[u8], n: u32, index: &mut Index) -> bool
             book_index::put_number(index, i, at as u16);
         }
     }
-    let Some(groups) = group_count(i, n) else {
+    let Some(groups) = groups_behind(i, n) else {
         return false;
     };
     book_index::put_number(index, GROUP_NUMBER, groups as u16);

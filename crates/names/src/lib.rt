@@ -79,7 +79,7 @@ pub fn replace_name(t: &mut [u64], at: usize, n: u32, p: u32) -> bool
     ensures value { (st : State) → Laid names_per_group st t.old → Standing at st → result ≡ held (lookup n (names_at at st)) }
     ensures laid { (st : State) → Laid names_per_group st t.old → Standing at st → Laid names_per_group (with_names at (renew n p (names_at at st)) st) t.new }
 {
-    let count = name_count(t[CONTENTS_AT + at]);
+    let count = GroupAt { words: t, at }.count();
     namespace::replace(&mut t[own_words(at)], count, n, p).is_ok()
 }
 

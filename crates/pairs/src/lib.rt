@@ -34,11 +34,15 @@ impl Model for Plan {
     ghost view = { λ p. paired p.numbers p.sets };
 }
 
-// Whether a number is one of these.
+// Whether a number is one of these. It looks at all of them, without a branch, as `search::has_pid` does.
 fn among(numbers: &[u16], number: u16) -> bool
     ensures { result ≡ holds numbers.now number }
 {
-    numbers.iter().any(|other| *other == number)
+    let mut held = false;
+    for other in numbers {
+        held |= *other == number;
+    }
+    held
 }
 
 // A place and a count of places have one bound each, which a type for either would not say more plainly. The count comes beside the plan, in `gathering`,

@@ -31,7 +31,7 @@ pub fn fits(book: &[u8], n: u32) -> bool
         i += 1;
         at = end + 1;
     }
-    book::group_count(i, n).is_some()
+    book::groups_behind(i, n).is_some()
 }
 
 // Both methods are as those of `book::Book` but for the search: a trait with the search and its law would be longer than the two.

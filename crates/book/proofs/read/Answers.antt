@@ -42,13 +42,13 @@ loop-at-preserved c =
     let n = not-true _ (sym c.is_new.ensures.0 ∙ c.if-not-is_new.false) in
     rw c.is_new.ensures.1 (goes-past 0 _ _ _ _ c.loop-at.invariant _ e.at_newline e.inside e.is_atom n c.if-i-le-INDEXED_LINES.false)
 
-pub returns-in_default-group_count : goal.returns-in_default-group_count
-returns-in_default-group_count c = refused _ _ _ (no-book _ _ _ _ _ c.loop-at.invariant c.loop-at-test.false c.in_default-group_count.ensures)
+pub returns-in_default-groups_behind : goal.returns-in_default-groups_behind
+returns-in_default-groups_behind c = refused _ _ _ (no-book _ _ _ _ _ c.loop-at.invariant c.loop-at-test.false c.in_default-groups_behind.ensures)
 
 pub returns : goal.returns
 returns c =
     let h = c.loop-at-test.false in
-    let g = groups-counted _ _ _ c.in-Some-group_count.ensures in (
+    let g = groups-counted _ _ _ c.in-Some-groups_behind.ensures in (
       sym (is-book _ _ _ _ _ c.loop-at.invariant h g.0 (omega arith)),
       λ e. rw (c.put_number-2.ensures, g.1) (is-noted _ _ _ _ _ c.loop-at.invariant h g.0 (omega arith)),
     )

@@ -9,17 +9,17 @@ use lib.ListN.{length}
 use Rattle.std.specs.Prelude.{Option, Some, None}
 use Rattle.std.specs.Option.{is_some}
 use Rattle.book.specs.Book.{fit}
-use Rattle.book.specs.Passing.{group_count, end-found, groups-counted}
+use Rattle.book.specs.Passing.{groups_behind, end-found, groups-counted}
 use Rattle.book.specs.Finding.{some-found}
 use Rattle.book.specs.Reading.{count-within, no-line, stands-twice, no-book, is-book}
 use Rattle.plain_book.specs.Unindexed.{Read, read_none, read_more}
 use Rattle.plain_book.proofs.fits.Goals as goal
 
 -- all are read
-decided : (n : ℕ) (t : List ℕ) (i at : ℕ) → Read t i at → length t ≤ at → is_some (group_count i n) ≡ fit n t
-decided n t i at R h = go (group_count i n) refl
+decided : (n : ℕ) (t : List ℕ) (i at : ℕ) → Read t i at → length t ≤ at → is_some (groups_behind i n) ≡ fit n t
+decided n t i at R h = go (groups_behind i n) refl
   where
-    go : (o : Option ℕ) → o ≡ group_count i n → is_some o ≡ fit n t
+    go : (o : Option ℕ) → o ≡ groups_behind i n → is_some o ≡ fit n t
     go (Some g) e = let k = groups-counted i n g e in sym (is-book n t _ i at R.reading h k.0 (omega arith))
     go None e = sym (no-book n t _ i at R.reading h e)
 
@@ -46,5 +46,5 @@ loop-at-preserved c =
 
 pub returns : goal.returns
 returns c =
-    let d : c.is_some-2.result ≡ is_some c.group_count.result = search rules in
-    d ∙ ap is_some c.group_count.ensures ∙ decided _ _ _ _ c.loop-at.invariant c.loop-at-test.false
+    let d : c.is_some-2.result ≡ is_some c.groups_behind.result = search rules in
+    d ∙ ap is_some c.groups_behind.ensures ∙ decided _ _ _ _ c.loop-at.invariant c.loop-at-test.false

@@ -1,5 +1,5 @@
 -- The groups of a list, taken one by one: each by its places in the text. Assumes nothing.
-use Rattle.std.specs.Prelude.{◌≡◌, refl, Option, Some, None, Bool, true, false, not, ◌&&◌, ◌||◌, List, [], ◌∷◌, map, ℕ, zero, suc, ◌+◌, ◌<◌, ◌≤◌, length, get_or, take}
+use Rattle.std.specs.Prelude.{◌≡◌, refl, Option, Some, None, Bool, true, false, not, ◌&&◌, ◌||◌, List, [], ◌∷◌, map, ℕ, zero, suc, ◌+◌, ◌<◌, ◌≤◌, length, get_or, take, drop}
 use Rattle.std.specs.List.{list_any, list_all}
 use Rattle.std.proofs.Common.{sym, ap, ◌∙◌, arith, length-take, get_or-take}
 use Rattle.tokens.specs.Reserved.{same}
@@ -88,6 +88,33 @@ module _ (t : List ℕ) where
   first-inside n at b x k h e =
       let l : k < n = omega (arith, length-take n (places t at b)) in
       places-inside at b x k (omega (arith, length-take n (places t at b))) (e ∙ get_or-take n (places t at b) k x l)
+
+  -- they are few enough
+  few_in : (f at : ℕ) (b : Bool) → length (places_in f t at b) ≤ f
+  unfolding places_in
+  few_in zero at b = omega arith
+  few_in (suc f) at b = go (next_group t at b) (λ n. few_in f n true)
+    where
+      go : (o : Option Group) → ((n : ℕ) → length (places_in f t n true) ≤ f) → length (placed (λ n. places_in f t n true) o) ≤ suc f
+      go (Some g) h = omega (arith, h g.past)
+      go None h = omega arith
+
+  pub places-few : (at : ℕ) (b : Bool) → length (places t at b) ≤ suc (length t)
+  unfolding places
+  places-few at b = few_in (suc (length t)) at b
+
+  -- behind n of them: one more, and the others
+  pub place-left : (n at : ℕ) (b : Bool) (x : Group) (xs : List Group) → drop n (places t at b) ≡ x ∷ xs → (n < length (places t at b)) × IsInside t x.from x.to × (drop (n + 1) (places t at b) ≡ xs)
+  place-left n at b x xs e =
+      let (l, p, q) = behind n (places t at b) x xs e in
+      let a : n + 1 ≡ suc n = omega arith in
+      (l, places-inside at b x n l p, rw a q)
+    where
+      behind : (n : ℕ) (ys : List Group) (x : Group) (xs : List Group) → drop n ys ≡ x ∷ xs → (n < length ys) × (x ≡ get_or ys n x) × (drop (suc n) ys ≡ xs)
+      behind zero [] x xs e = absurd cc
+      behind zero (y ∷ ys) x xs e = (omega arith, cc, cc)
+      behind (suc n) [] x xs e = absurd cc
+      behind (suc n) (y ∷ ys) x xs e = let (l, p, q) = behind n ys x xs e in (omega arith, p, q)
 
   turned : (k : ℕ → List Group) (at : ℕ) (b : Bool) → ((n : ℕ) → at < n → n ≤ length t → groups_from t n true ≡ map (group_of t) (k n))
       → groups_from t at b ≡ map (group_of t) (placed k (next_group t at b))

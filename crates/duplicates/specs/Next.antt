@@ -1,5 +1,5 @@
 -- The next group of a list of groups, and the walk along the groups step by step; nodes that are tested one by one. Assumes nothing.
-use Rattle.std.specs.Prelude.{◌≡◌, refl, Option, Some, None, Result, Ok, Err, Bool, true, ◌&&◌, ◌||◌, List, [], ◌∷◌, ℕ, ◌<◌, ◌≤◌, length}
+use Rattle.std.specs.Prelude.{◌≡◌, refl, Option, Some, None, Result, Ok, Err, Bool, true, ◌&&◌, ◌||◌, List, [], ◌∷◌, ℕ, ◌<◌}
 use Rattle.std.specs.List.{list_any, list_all}
 use Rattle.std.proofs.Common.{ap}
 use native.Mathlib.Omega.{arith}
@@ -65,16 +65,6 @@ group-next t at begun g e = rw e at (next-is t at begun)
 
 pub group-none : (t : List ℕ) (at : ℕ) (begun : Bool) → next_group t at begun ≡ None → groups_from t at begun ≡ []
 group-none t at begun e = rw e at (next-is t at begun)
-
--- its name lies in the text
-pub name-starts : (t : List ℕ) (at : ℕ) (begun : Bool) (g : Group) → next_group t at begun ≡ Some g → g.from ≤ g.to
-name-starts t at begun g e = (group-next t at begun g e).2.0
-
-pub name-ends : (t : List ℕ) (at : ℕ) (begun : Bool) (g : Group) → next_group t at begun ≡ Some g → g.to ≤ length t
-name-ends t at begun g e = (group-next t at begun g e).2.1
-
--- a step along the groups
-pub ruleset next_groups = (group-next, group-none, name-starts, name-ends)
 
 -- ---- nodes, by tests of each
 

@@ -26,7 +26,7 @@ pub struct Group {
 
 // The groups of the list, one by one: where the next one would begin, and whether one stands in front of it.
 #[derive(Clone, Copy)]
-struct Groups<'a> {
+pub struct Groups<'a> {
     text: &'a [u8],
     at: usize,
     begun: bool,
@@ -53,7 +53,7 @@ pub fn next_group(text: &[u8], at: usize, begun: bool) -> Option<Group>
 }
 
 // The groups of the list at a place.
-fn groups_at(text: &[u8], g: usize) -> Groups<'_>
+pub fn groups_at(text: &[u8], g: usize) -> Groups<'_>
     ensures { places_left result ≡ places text.now g false }
 {
     Groups {

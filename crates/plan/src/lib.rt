@@ -58,25 +58,18 @@ fn put(plan: &mut Plan, k: usize, group: Made)
 }
 
 // The plan where no node clashes.
-#[tactic(auto, using(duplicates::specs::Next::next_groups))]
 fn fitted(text: &[u8], g: usize, book: &PlainBook<'_>, plan: &mut Plan) -> Result<usize, Misfit>
     ensures value { result ≡ fitting book.now.nodes book.now.text.now (kept (groups text.now g)) }
     ensures by_index { (k : ℕ) → result ≡ Ok k → take (2 * k) (woven plan.new) ≡ plan_words book.now.nodes book.now.text.now (kept (groups text.now g)) }
 {
-    let mut count = 0;
     let mut k = 0;
-    let mut j = g;
-    let mut begun = false;
-    while let Some(group) = duplicates::next_group(text, j, begun) {
+    for (count, group) in duplicates::groups_at(text, g).enumerate() {
         let name = &text[group.from..group.to];
         if duplicates::made(text, g, count, name, group.nodes) {
             let next = enter(text, name, group.nodes, book).ok_or(Misfit::Unknown)?;
             put(plan, k, next);
             k += 1;
         }
-        count += 1;
-        j = group.past;
-        begun = true;
     }
     if GROUP_LIMIT < k {
         return Err(Misfit::TooMany);

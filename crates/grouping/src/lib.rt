@@ -11,10 +11,9 @@ use answers::{Answer, Value, done, refused};
 use connecting::{become_free, interconnect, leave_free};
 use groups::{delete_group, insert_group, set_members};
 use inputs::{check_creation, check_group, check_set};
-use layout::MEMBERS_AT;
 use names::drop_hosted;
 use place::{place_for, place_of};
-use sound_table::SoundTable;
+use sound_table::{GroupAt, SoundTable};
 
 // A new s_group of the set: its members are all connected and leave the free groups.
 pub fn new_s_group(t: &mut [u64], caller: u32, s: u32, set: u64) -> Answer
@@ -56,7 +55,7 @@ pub fn add_nodes(t: &mut [u64], caller: u32, s: u32, set: u64) -> Answer
     match place_for(SoundTable { words: t }, caller, s) {
         Err(denial) => refused(denial),
         Ok(at) => {
-            let members = nodes::union(t[MEMBERS_AT + at], set);
+            let members = nodes::union(GroupAt { words: t, at }.members(), set);
             leave_free(t, set);
             interconnect(t, members);
             set_members(t, at, members);
@@ -79,7 +78,7 @@ pub fn remove_nodes(t: &mut [u64], caller: u32, s: u32, set: u64) -> Answer
     match place_for(SoundTable { words: t }, caller, s) {
         Err(denial) => refused(denial),
         Ok(at) => {
-            let members = t[MEMBERS_AT + at];
+            let members = GroupAt { words: t, at }.members();
             let left = nodes::diff(members, set);
             if left == 0 {
                 delete_group(t, at);
@@ -109,7 +108,7 @@ pub fn delete_s_group(t: &mut [u64], caller: u32, s: u32) -> Answer
     match place_for(SoundTable { words: t }, caller, s) {
         Err(denial) => refused(denial),
         Ok(at) => {
-            let members = t[MEMBERS_AT + at];
+            let members = GroupAt { words: t, at }.members();
             delete_group(t, at);
             become_free(t, members);
             done(Value::True)

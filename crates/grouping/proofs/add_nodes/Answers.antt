@@ -1,7 +1,6 @@
 -- `grouping::add_nodes` meets its contract: each return is one case of the rule.
 -- Assumes nothing.
 use borrow.Author.Rules.{rules}
-use native.Mathlib.Omega.{arith}
 use Rattle.semantics.specs.Table.{state_of}
 use Rattle.std.specs.Prelude.{Ok, Err}
 use Rattle.place.specs.Sound.{here, regular, base, nodes-few, granted-here}
@@ -17,14 +16,8 @@ returns-in-Err c =
     rw c.refused.ensures (says-kept c.args.t.now c.requires.t_value
     (refused (step-add 0 c.args.caller (here c.args.t.now) c.args.s c.args.set).judging (rw c.size-size.ensures.value at c.check_set.ensures) c.in-Err.is))
 
-pub overflow_add-at : goal.overflow_add-at
-overflow_add-at c = omega (arith, (seat-few c.args.t.now c.requires.t_value ((granted-here c.args.t.now c.requires.t_value c.args.caller c.args.s c.place_for.result (Ok c.in-Ok.at) c.place_for.ensures c.in-Ok.is)).seat))
-
-pub offset_bounds-t-at : goal.offset_bounds-t-at
-offset_bounds-t-at c = omega (arith, (seat-few c.args.t.now c.requires.t_value ((granted-here c.args.t.now c.requires.t_value c.args.caller c.args.s c.place_for.result (Ok c.in-Ok.at) c.place_for.ensures c.in-Ok.is)).seat))
-
-pub bounds-t-at : goal.bounds-t-at
-bounds-t-at c = omega (arith, (seat-few c.args.t.now c.requires.t_value ((granted-here c.args.t.now c.requires.t_value c.args.caller c.args.s c.place_for.result (Ok c.in-Ok.at) c.place_for.ensures c.in-Ok.is)).seat), c.requires.t_len)
+pub invariant_of-members : goal.invariant_of-members
+invariant_of-members c = record { sized = c.requires.t_len; below = seat-few c.args.t.now c.requires.t_value ((granted-here c.args.t.now c.requires.t_value c.args.caller c.args.s c.place_for.result (Ok c.in-Ok.at) c.place_for.ensures c.in-Ok.is)).seat }
 
 pub leave_free-requires : goal.leave_free-requires
 leave_free-requires c =
@@ -48,5 +41,5 @@ returns-in-Ok c =
     let t = c.args.t.now in
     let r = ((granted-here c.args.t.now c.requires.t_value c.args.caller c.args.s c.place_for.result (Ok c.in-Ok.at) c.place_for.ensures c.in-Ok.is)).seat in
     rw c.done.ensures (add-joined t c.requires.t_value c.args.caller c.args.s c.args.set (rw c.size-size.ensures.value at c.check_set.ensures) c.in_default.is ((granted-here c.args.t.now c.requires.t_value c.args.caller c.args.s c.place_for.result (Ok c.in-Ok.at) c.place_for.ensures c.in-Ok.is))
-    c.union-members.result c.union-members.ensures c.set_members.new.t
+    c.union-members.result (rw c.members.ensures at c.union-members.ensures) c.set_members.new.t
     (c.set_members.ensures _ (c.interconnect.ensures _ (c.leave_free.ensures (here t) (base t c.requires.t_value) (regular-rostered (regular t c.requires.t_value)))) r.before r.after r.group r.is r.stands))

@@ -1,6 +1,5 @@
 -- `grouping::delete_s_group` meets its contract: each return is one case of the rule.
 -- Assumes nothing.
-use native.Mathlib.Omega.{arith}
 use Rattle.semantics.specs.Table.{state_of}
 use Rattle.semantics.specs.Steps.{become_free}
 use Rattle.std.specs.Prelude.{Ok, Err}
@@ -16,14 +15,8 @@ returns-in-Err c =
     rw c.refused.ensures (says-kept c.args.t.now c.requires.t_value
     (refused (step_gone 0 c.args.caller (here c.args.t.now) c.args.s).judging (rw c.size-size.ensures.value at c.check_group.ensures) c.in-Err.is))
 
-pub overflow_add-members : goal.overflow_add-members
-overflow_add-members c = omega (arith, (seat-few c.args.t.now c.requires.t_value ((granted-here c.args.t.now c.requires.t_value c.args.caller c.args.s c.place_for.result (Ok c.in-Ok.at) c.place_for.ensures c.in-Ok.is)).seat))
-
-pub offset_bounds-t-at : goal.offset_bounds-t-at
-offset_bounds-t-at c = omega (arith, (seat-few c.args.t.now c.requires.t_value ((granted-here c.args.t.now c.requires.t_value c.args.caller c.args.s c.place_for.result (Ok c.in-Ok.at) c.place_for.ensures c.in-Ok.is)).seat))
-
-pub bounds-t-at : goal.bounds-t-at
-bounds-t-at c = omega (arith, (seat-few c.args.t.now c.requires.t_value ((granted-here c.args.t.now c.requires.t_value c.args.caller c.args.s c.place_for.result (Ok c.in-Ok.at) c.place_for.ensures c.in-Ok.is)).seat), c.requires.t_len)
+pub invariant_of-members : goal.invariant_of-members
+invariant_of-members c = record { sized = c.requires.t_len; below = seat-few c.args.t.now c.requires.t_value ((granted-here c.args.t.now c.requires.t_value c.args.caller c.args.s c.place_for.result (Ok c.in-Ok.at) c.place_for.ensures c.in-Ok.is)).seat }
 
 pub delete_group-requires : goal.delete_group-requires
 delete_group-requires c =
@@ -43,4 +36,4 @@ returns-in-Ok c =
     let t = c.args.t.now in
     let r = ((granted-here c.args.t.now c.requires.t_value c.args.caller c.args.s c.place_for.result (Ok c.in-Ok.at) c.place_for.ensures c.in-Ok.is)).seat in
     rw c.done.ensures (delete-done t c.requires.t_value c.args.caller c.args.s (rw c.size-size.ensures.value at c.check_group.ensures) c.in_default.is ((granted-here c.args.t.now c.requires.t_value c.args.caller c.args.s c.place_for.result (Ok c.in-Ok.at) c.place_for.ensures c.in-Ok.is)) c.become_free.new.t
-    (c.become_free.ensures _ (c.delete_group.ensures (here t) (base t c.requires.t_value) r.before r.after r.group r.is r.stands) (apart-deleted t c.requires.t_value r)))
+    (rw c.members-members.ensures at (c.become_free.ensures _ (c.delete_group.ensures (here t) (base t c.requires.t_value) r.before r.after r.group r.is r.stands) (apart-deleted t c.requires.t_value r))))

@@ -21,14 +21,8 @@ returns-in-Err c =
     rw c.refused.ensures (says-kept c.args.t.now c.requires.t_value
     (refused (step-removed 0 c.args.caller (here c.args.t.now) c.args.s c.args.set).judging (rw c.size-size.ensures.value at c.check_set.ensures) c.in-Err.is))
 
-pub overflow_add-members : goal.overflow_add-members
-overflow_add-members c = omega (arith, (seat-few c.args.t.now c.requires.t_value ((granted-here c.args.t.now c.requires.t_value c.args.caller c.args.s c.place_for.result (Ok c.in-Ok.at) c.place_for.ensures c.in-Ok.is)).seat))
-
-pub offset_bounds-t-at : goal.offset_bounds-t-at
-offset_bounds-t-at c = omega (arith, (seat-few c.args.t.now c.requires.t_value ((granted-here c.args.t.now c.requires.t_value c.args.caller c.args.s c.place_for.result (Ok c.in-Ok.at) c.place_for.ensures c.in-Ok.is)).seat))
-
-pub bounds-t-at : goal.bounds-t-at
-bounds-t-at c = omega (arith, (seat-few c.args.t.now c.requires.t_value ((granted-here c.args.t.now c.requires.t_value c.args.caller c.args.s c.place_for.result (Ok c.in-Ok.at) c.place_for.ensures c.in-Ok.is)).seat), c.requires.t_len)
+pub invariant_of-members : goal.invariant_of-members
+invariant_of-members c = record { sized = c.requires.t_len; below = seat-few c.args.t.now c.requires.t_value ((granted-here c.args.t.now c.requires.t_value c.args.caller c.args.s c.place_for.result (Ok c.in-Ok.at) c.place_for.ensures c.in-Ok.is)).seat }
 
 pub delete_group-requires : goal.delete_group-requires
 delete_group-requires c =
@@ -40,8 +34,8 @@ returns-then-left-eq0 c =
     let t = c.args.t.now in
     let r = ((granted-here c.args.t.now c.requires.t_value c.args.caller c.args.s c.place_for.result (Ok c.in-Ok.at) c.place_for.ensures c.in-Ok.is)).seat in
     rw c.done.ensures (remove-all t c.requires.t_value c.args.caller c.args.s c.args.set (rw c.size-size.ensures.value at c.check_set.ensures) c.in_default.is ((granted-here c.args.t.now c.requires.t_value c.args.caller c.args.s c.place_for.result (Ok c.in-Ok.at) c.place_for.ensures c.in-Ok.is))
-    c.diff-left.result c.diff-left.ensures c.become_free.new.t c.if-left-eq0.true
-    (c.become_free.ensures _ (c.delete_group.ensures (here t) (base t c.requires.t_value) r.before r.after r.group r.is r.stands) (apart-deleted t c.requires.t_value r)))
+    c.diff-left.result (rw c.members-members.ensures at c.diff-left.ensures) c.become_free.new.t c.if-left-eq0.true
+    (rw c.members-members.ensures at (c.become_free.ensures _ (c.delete_group.ensures (here t) (base t c.requires.t_value) r.before r.after r.group r.is r.stands) (apart-deleted t c.requires.t_value r))))
 
 pub drop_hosted-requires : goal.drop_hosted-requires
 drop_hosted-requires c = record { t_len = search rules; at_lt_group_limit = omega (arith, (seat-few c.args.t.now c.requires.t_value ((granted-here c.args.t.now c.requires.t_value c.args.caller c.args.s c.place_for.result (Ok c.in-Ok.at) c.place_for.ensures c.in-Ok.is)).seat)) }
@@ -64,7 +58,7 @@ returns-else-left-eq0 c =
     let r = ((granted-here c.args.t.now c.requires.t_value c.args.caller c.args.s c.place_for.result (Ok c.in-Ok.at) c.place_for.ensures c.in-Ok.is)).seat in
     let ns : List Entry = drop_hosted c.inter-gone.result (names_at c.in-Ok.at (here t)) in
     rw c.done-in-Ok.ensures (remove-left t c.requires.t_value c.args.caller c.args.s c.args.set (rw c.size-size.ensures.value at c.check_set.ensures) c.in_default.is ((granted-here c.args.t.now c.requires.t_value c.args.caller c.args.s c.place_for.result (Ok c.in-Ok.at) c.place_for.ensures c.in-Ok.is))
-    c.diff-left.result c.diff-left.ensures c.become_free-in-Ok.new.t c.if-left-eq0.false c.inter-gone.result c.inter-gone.ensures
+    c.diff-left.result (rw c.members-members.ensures at c.diff-left.ensures) c.become_free-in-Ok.new.t c.if-left-eq0.false c.inter-gone.result (rw c.members-members.ensures at c.inter-gone.ensures)
     (c.become_free-in-Ok.ensures _ (c.set_members.ensures (with_names c.in-Ok.at ns (here t))
     (c.drop_hosted.ensures (here t) (base t c.requires.t_value) (standing (regular t c.requires.t_value) r)) r.before r.after (renamed ns r.group) (names-put (here t) r ns) r.stands)
-    (apart-left t c.requires.t_value r c.args.set c.diff-left.result ns c.diff-left.ensures)))
+    (apart-left t c.requires.t_value r c.args.set c.diff-left.result ns (rw c.members-members.ensures at c.diff-left.ensures))))

@@ -13,8 +13,8 @@ pub enum Fault {
     Again(usize, usize),
 }
 
-// How many lines a text has, or what is wrong with the first that is not fine by itself. A loop over what is left of the text, since an item of
-// `split` does not say whether a newline stands behind it.
+// How many lines a text has, or what is wrong with the first that is not fine by itself. A loop over what is left of the text, whose length
+// bounds the count: over the items of `split_inclusive` the check doesn't find alone that adding one to the count doesn't overflow (tried).
 fn lines_of(book: &[u8]) -> Result<usize, Fault> {
     let mut count = 0;
     let mut rest = book;

@@ -54,22 +54,29 @@ impl Atoms<'_> {
         book::seek(self.book, atom).is_some_and(|i| self.n as usize <= i)
     }
 
+    // The atom between two places, where it is not one of a node.
+    fn unlisted_at<'a>(&self, text: &'a [u8], from: usize, to: usize) -> Option<Spot<'a>> {
+        let name = spot_at(text, from, to);
+        if self.has_node(name.atom) {
+            return None;
+        }
+        Some(name)
+    }
+
     // The first of the nodes at a place that is not in the book.
     fn unlisted_node<'a>(&self, text: &'a [u8], nodes: usize) -> Option<Spot<'a>> {
         let mut at = nodes;
         for _ in 0..text.len() {
-            let (node, last) = match node_at(text, at).ok()? {
-                Node::More(node) => (node, false),
-                Node::Last(node) => (node, true),
-            };
-            let name = spot_at(text, node.from, node.to);
-            if !self.has_node(name.atom) {
-                return Some(name);
+            match node_at(text, at).ok()? {
+                Node::Last(node) => return self.unlisted_at(text, node.from, node.to),
+                Node::More(node) => {
+                    let found = self.unlisted_at(text, node.from, node.to);
+                    if found.is_some() {
+                        return found;
+                    }
+                    at = node.past;
+                }
             }
-            if last {
-                return None;
-            }
-            at = node.past;
         }
         None
     }

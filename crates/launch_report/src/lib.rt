@@ -7,7 +7,6 @@ ghost use Rattle.print.specs.Sheets.{sheet, put};
 ghost use Rattle.print.specs.Puts.{Puts};
 ghost use Rattle.launch_report.specs.Launched.{quoted, member, members_from, named, group_line, group_lines, own_part, own_each, own_lines, groups_in, launched_lines};
 
-use layout::GROUP_NAMES;
 use nodes::NODE_LIMIT;
 use print::Printer;
 use sound_table::SoundTable;
@@ -85,7 +84,7 @@ impl Atoms<'_> {
         ensures { Puts printer.old printer.new (group_lines self.now.book.now self.now.n (groups_in table.entry.words.now)) }
     {
         for (word, set) in table.contents().iter().zip(table.members()) {
-            self.put_group_line(printer, (*word % GROUP_NAMES) as u32, *set);
+            self.put_group_line(printer, layout::group_name(*word) as u32, *set);
         }
     }
 
@@ -95,7 +94,7 @@ impl Atoms<'_> {
         ensures { Puts printer.old printer.new (own_each self.now.book.now self.now.n node (groups_in table.entry.words.now)) }
     {
         for (word, set) in table.contents().iter().zip(table.members()) {
-            self.put_own_line(printer, node, (*word % GROUP_NAMES) as u32, *set);
+            self.put_own_line(printer, node, layout::group_name(*word) as u32, *set);
         }
     }
 

@@ -34,7 +34,7 @@ overflow_cast-slots c = omega (arith, few c.args.t.words.now c.args.t.sized c.ar
 pub loop-g-preserved : goal.loop-g-preserved
 loop-g-preserved c = record {
   long = length-set c.loop-g.slots _ c.loop-g.g ∙ c.loop-g.invariant.long;
-  noted = sym (turn c.args.t.words.now c.args.t.sized c.args.t.fit _ c.contents-word-items.ensures c.loop-g.g c.loop-g.slots c.loop-g-test.true) ∙ c.loop-g.invariant.noted;
+  noted = rw c.group_name-s.ensures (sym (turn c.args.t.words.now c.args.t.sized c.args.t.fit _ c.contents-word-items.ensures c.loop-g.g c.loop-g.slots c.loop-g-test.true)) ∙ c.loop-g.invariant.noted;
 }
 
 pub returns : goal.returns

@@ -13,7 +13,7 @@ loop-word-preserved c =
     let first : iter_rest (zip_first c.into_iter-word-iterator.result) ≡ c.contents.result.now = cc in
     let second : iter_rest (zip_second c.into_iter-word-iterator.result) ≡ c.members.result.now = cc in
     let t = zip_turn _ _ _ c.into_iter-word-iterator.result c.loop-word.word-iterator c.next.new.self _ (first ∙ c.contents.ensures) (second ∙ c.members.ensures) c.loop-word.yielded_by _ c.in-Some.is c.next.ensures.steps in
-    simp length-append (leaves_less c.loop-word.invariant (groups_turn _ _ _ _ _ t.0 t.1 _ _ (t.2 0) (t.3 0)) c.put_group_line.ensures)
+    simp length-append (leaves_less c.loop-word.invariant (groups_turn _ _ _ _ _ t.0 t.1 _ _ (t.2 0) (t.3 0)) (rw c.group_name.ensures at c.put_group_line.ensures))
 
 pub returns : goal.returns
 returns c =

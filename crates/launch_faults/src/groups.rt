@@ -1,5 +1,5 @@
 // The atom of a launch file for which a launch is refused.
-use duplicates::next_group;
+use duplicates::groups_at;
 use walk::{Node, node_at};
 
 // An atom of a file: the place where it begins, and its bytes.
@@ -16,7 +16,8 @@ pub enum Stranger<'a> {
     Node(Spot<'a>),
 }
 
-// The atoms of a book: its first n lines are those of the nodes, and those of the groups stand behind them.
+// The atoms of a book: its first n lines are those of the nodes, and those of the groups stand behind them. `launch_report` has a struct of the two of its own,
+// whose methods put lines: neither crate stands on the other.
 #[derive(Clone, Copy)]
 struct Atoms<'a> {
     book: &'a [u8],
@@ -31,14 +32,11 @@ fn spot_at(text: &[u8], from: usize, to: usize) -> Spot<'_> {
 
 // The name of the first group with the name of one that has other nodes, the node with this atom in it. The groups stand at g.
 pub fn torn_group<'a>(text: &'a [u8], g: usize, node: &[u8]) -> Option<Spot<'a>> {
-    let mut at = g;
-    for count in 0..text.len() {
-        let group = next_group(text, at, 0 < count)?;
+    for group in groups_at(text, g) {
         let name = spot_at(text, group.from, group.to);
         if duplicates::torn(text, g, name.atom, group.nodes, node) {
             return Some(name);
         }
-        at = group.past;
     }
     None
 }
@@ -63,7 +61,7 @@ impl Atoms<'_> {
         Some(name)
     }
 
-    // The first of the nodes at a place that is not in the book.
+    // The first of the nodes at a place that is not in the book. By places: `walk::Nodes` gives names alone, and a message needs the place.
     fn unlisted_node<'a>(&self, text: &'a [u8], nodes: usize) -> Option<Spot<'a>> {
         let mut at = nodes;
         for _ in 0..text.len() {
@@ -98,9 +96,7 @@ impl Atoms<'_> {
 // The first atom of a group that is to be made that is not in the book for n nodes. The groups stand at g.
 pub fn unlisted<'a>(text: &'a [u8], g: usize, book: &[u8], n: u32) -> Option<Stranger<'a>> {
     let atoms = Atoms { book, n };
-    let mut at = g;
-    for count in 0..text.len() {
-        let group = next_group(text, at, 0 < count)?;
+    for (count, group) in groups_at(text, g).enumerate() {
         let name = spot_at(text, group.from, group.to);
         if duplicates::made(text, g, count, name.atom, group.nodes) {
             let found = atoms.unlisted_in(text, name, group.nodes);
@@ -108,7 +104,6 @@ pub fn unlisted<'a>(text: &'a [u8], g: usize, book: &[u8], n: u32) -> Option<Str
                 return found;
             }
         }
-        at = group.past;
     }
     None
 }

@@ -104,7 +104,8 @@ module _ (t : List ℕ) where
   places-few at b = few_in (suc (length t)) at b
 
   -- behind n of them: one more, and the others
-  pub place-left : (n at : ℕ) (b : Bool) (x : Group) (xs : List Group) → drop n (places t at b) ≡ x ∷ xs → (n < length (places t at b)) × IsInside t x.from x.to × (drop (n + 1) (places t at b) ≡ xs)
+  pub place-left : (n at : ℕ) (b : Bool) (x : Group) (xs : List Group) → drop n (places t at b) ≡ x ∷ xs
+      → (n < length (places t at b)) × IsInside t x.from x.to × (drop (n + 1) (places t at b) ≡ xs)
   place-left n at b x xs e =
       let (l, p, q) = behind n (places t at b) x xs e in
       let a : n + 1 ≡ suc n = omega arith in

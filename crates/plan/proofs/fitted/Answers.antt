@@ -8,7 +8,7 @@ use Rattle.std.specs.Iterator.Adapters.{enumerate_count, enumerate_source}
 use Rattle.duplicates.specs.Next.{group_of}
 use Rattle.duplicates.specs.Along.{places_left, groups-placed, places-few, place-left}
 use Rattle.plan.specs.Looked.{woven-room, entered-told}
-use Rattle.plan.specs.Turns.{taken_none, taken-left, taken-unknown, taken_made, taken-too-many, taken-fits, taken-words}
+use Rattle.plan.specs.Turns.{taken_none, taken-left, taken-unknown, taken_made, taken-too-many, taken-fits}
 use Rattle.plan.proofs.fitted.Goals as goal
 
 pub loop-count-init-derived : goal.loop-count-init-derived
@@ -75,7 +75,3 @@ returns-then-k-gt-GROUP_LIMIT-clause-value c =
 pub returns-clause-value : goal.returns-clause-value
 returns-clause-value c =
     sym (taken-fits _ _ _ _ _ _ _ c.loop-count.invariant.2 (ap (map (group_of c.args.text.now)) c.in-None.ensures.steps.0.0) c.if-k-gt-GROUP_LIMIT.false)
-
-pub returns-clause-by_index : goal.returns-clause-by_index
-returns-clause-by_index c =
-    taken-words _ _ _ _ _ _ _ c.loop-count.invariant.2 (ap (map (group_of c.args.text.now)) c.in-None.ensures.steps.0.0) c.if-k-gt-GROUP_LIMIT.false

@@ -1,5 +1,5 @@
 // The atom of a launch file for which a launch is refused.
-use duplicates::groups_at;
+use duplicates::{groups_at, next_group};
 use walk::{Node, node_at};
 
 // An atom of a file: the place where it begins, and its bytes.
@@ -93,10 +93,13 @@ impl Atoms<'_> {
     }
 }
 
-// The first atom of a group that is to be made that is not in the book for n nodes. The groups stand at g.
+// The first atom of a group that is to be made that is not in the book for n nodes. The groups stand at g. By a place, since the number of a group is wanted too:
+// with `groups_at` and `enumerate` the goal `loop-count-init` stays open (tried).
 pub fn unlisted<'a>(text: &'a [u8], g: usize, book: &[u8], n: u32) -> Option<Stranger<'a>> {
     let atoms = Atoms { book, n };
-    for (count, group) in groups_at(text, g).enumerate() {
+    let mut at = g;
+    for count in 0..text.len() {
+        let group = next_group(text, at, 0 < count)?;
         let name = spot_at(text, group.from, group.to);
         if duplicates::made(text, g, count, name.atom, group.nodes) {
             let found = atoms.unlisted_in(text, name, group.nodes);
@@ -104,6 +107,7 @@ pub fn unlisted<'a>(text: &'a [u8], g: usize, book: &[u8], n: u32) -> Option<Str
                 return found;
             }
         }
+        at = group.past;
     }
     None
 }

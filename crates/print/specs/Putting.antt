@@ -1,6 +1,6 @@
 -- Laws of `put`: lists one behind the other, and what stands in the run where it fits. Assumes nothing.
-use Rattle.std.specs.Prelude.{◌≡◌, refl, Bool, true, false, cond, List, [], ◌∷◌, ◌++◌, ℕ, suc, ◌+◌, ◌-◌, ◌≤◌, ◌<◌, leb, ltb, length, take, drop, set}
-use Rattle.std.proofs.Common.{sym, ap, ◌∙◌, append_assoc, add-zero, add-one, arith, lt-ltb, le-ltb, ltb-true, leb-true, leb-false, length-set, length-append, length-take, length-drop, take-append-drop, take_all, take_at, length-take-le}
+use Rattle.std.specs.Prelude.{◌≡◌, refl, Bool, true, false, cond, List, [], ◌∷◌, ◌++◌, ℕ, suc, ◌+◌, ◌-◌, ◌≤◌, ◌<◌, leb, ltb, length, take, drop, set, get_or}
+use Rattle.std.proofs.Common.{sym, ap, ◌∙◌, append_assoc, add-zero, add-one, drop-cons, drop_of_length-le, arith, lt-ltb, le-ltb, ltb-true, leb-true, leb-false, length-set, length-append, length-take, length-drop, take-append-drop, take_all, take_at, length-take-le}
 use Rattle.std.proofs.lemmas.List.Edits.{sets, sets-eq}
 use Rattle.std.proofs.Math.Seq.{set_out}
 use Rattle.print.specs.Sheets.{Sheet, sheet, put_one, put}
@@ -10,6 +10,16 @@ pub put-append : (p : Sheet) (a b : List ℕ) → put (put p a) b ≡ put p (a +
 unfolding put
 put-append p [] b = refl
 put-append p (x ∷ a) b = put-append (put_one p x) a b
+
+-- a turn of a loop over bytes
+pub put-turn : (p q : Sheet) (s : List ℕ) (i : ℕ) → i < length s → q ≡ put p (get_or s i 0 ∷ []) → put p (drop i s) ≡ put q (drop (i + 1) s)
+unfolding put
+put-turn p q s i h e = rw (add-one, drop-cons s i 0, e)
+
+-- its end: nothing is left to put
+pub put-end : (p : Sheet) (s : List ℕ) (i : ℕ) → length s ≤ i → put p (drop i s) ≡ p
+unfolding put
+put-end p s i h = rw (drop_of_length-le s h)
 
 -- where the bytes fit, they stand at the place, and all else is as it was
 put-sets : (l : List ℕ) (i : ℕ) (bs : List ℕ) → i + length bs ≤ length l → put (sheet l i) bs ≡ sheet (sets l i bs) (i + length bs)

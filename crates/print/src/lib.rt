@@ -12,6 +12,29 @@ use answers::{Answer, Value};
 // The most digits that a number of 64 bits has.
 const MOST_DIGITS: usize = 20;
 
+// Puts one byte at a place of a run, and answers the next place.
+fn put_byte(out: &mut [u8], at: usize, b: u8) -> usize
+    ensures { sheet out.new result ≡ put (sheet out.old at) (b ∷ []) }
+{
+    if at < out.len() {
+        out[at] = b;
+        return at + 1;
+    }
+    at
+}
+
+// Puts bytes at a place of a run, and answers the next place. They go one by one, since those that do not fit are dropped, and the place is a local: in a
+// `Printer` it is in memory, which took twice the time.
+pub fn put_bytes(out: &mut [u8], at: usize, s: &[u8]) -> usize
+    ensures { sheet out.new result ≡ put (sheet out.old at) s.now }
+{
+    let mut next = at;
+    for b in s {
+        next = put_byte(out, next, *b);
+    }
+    next
+}
+
 // A run of bytes that the caller lends, printed on up to a place. Where a crate is handed a run, it makes a Printer of it, calls what puts, and answers the
 // place: that is three lines, which no function with a closure would shorten.
 #[derive(Drop)]
@@ -25,19 +48,14 @@ impl Printer<'_> {
     fn put_byte(&mut self, b: u8)
         ensures { Puts self.old self.new (b ∷ []) }
     {
-        if self.at < self.bytes.len() {
-            self.bytes[self.at] = b;
-            self.at += 1;
-        }
+        self.at = put_byte(self.bytes, self.at, b);
     }
 
-    // Puts bytes, one by one, since those that do not fit are dropped.
+    // Puts bytes.
     pub fn put_bytes(&mut self, s: &[u8])
         ensures { Puts self.old self.new s.now }
     {
-        for b in s {
-            self.put_byte(*b);
-        }
+        self.at = put_bytes(self.bytes, self.at, s);
     }
 
     // Puts a number in decimal.
@@ -107,13 +125,4 @@ impl Printer<'_> {
         self.put_spaced(answers::number(answer.reason) as u64);
         self.put_byte(b'\n');
     }
-}
-
-// Puts bytes at a place of a run, and answers the next place.
-pub fn put_bytes(out: &mut [u8], at: usize, s: &[u8]) -> usize
-    ensures { sheet out.new result ≡ put (sheet out.old at) s.now }
-{
-    let mut printer = Printer { bytes: out, at };
-    printer.put_bytes(s);
-    printer.at
 }

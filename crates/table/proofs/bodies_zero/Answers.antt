@@ -35,8 +35,8 @@ pub loop-i-preserved : goal.loop-i-preserved
 loop-i-preserved c =
     let v = c.loop-i in
     let a = c.args in
-    let whole = lent-part (bodies_at + a.cap * v.i) a.cap a.t.words.now in
-    more a.cap a.t.count v.i a.t.words.now c.requires (omega arith) (omega arith) v.right v.invariant c.all_zero-right.result (cc)
+    more a.cap a.t.count v.i a.t.words.now c.requires (omega arith) (omega arith) v.right v.invariant c.all_zero-right.result
+    (c.all_zero-right.ensures ∙ ap all_zero (c.body.ensures ∙ sym (lent-part (bodies_at + a.cap * v.i) a.cap a.t.words.now)))
 
 pub returns : goal.returns
 returns c =

@@ -3,7 +3,7 @@
 #![tactic(auto)]
 
 ghost use Rattle.std.specs.Prelude.{◌≡◌, ◌≤◌, ◌<◌, length};
-ghost use Rattle.semantics.specs.Sizes.{group_limit, table_words};
+ghost use Rattle.semantics.specs.Sizes.{group_limit, bodies_at, table_words};
 ghost use Rattle.free_test.specs.WireTests.{all_below};
 ghost use Rattle.groups_test.specs.GroupTests.{grouped_of, names_right, met_right, body};
 
@@ -14,31 +14,32 @@ use namespace_test::SLOT_COUNT;
 // From so many s_groups on it is quicker to write each node beside its connections first.
 const KNOWN_FROM: usize = 6;
 
-// The words of a table whose s_groups hold at most `cap` names each, lent for reading, with the number of s_groups that its head gives.
+// The words of a table, lent for reading, with the number of s_groups that its head gives. It may end where the names would begin: only what reads names asks
+// for the room of `cap` names an s_group.
 #[derive(Clone, Copy)]
 pub struct Counted<'a> {
     pub words: &'a [u64],
     pub count: usize,
-    pub cap: usize,
-    pub ghost long: { length words.now ≡ table_words cap },
+    pub ghost long: { bodies_at ≤ length words.now },
     pub ghost few: { count ≤ group_limit },
 }
 
 impl<'a> Counted<'a> {
     // The words of the names of an s_group.
-    pub fn body(self, i: usize) -> &'a [u64]
-        requires { i < group_limit }
-        ensures { result.now ≡ body self.entry.cap self.entry.words.now i }
+    pub fn body(self, cap: usize, i: usize) -> &'a [u64]
+        requires sized { length self.words.now ≡ table_words cap }
+        requires below { i < group_limit }
+        ensures { result.now ≡ body cap self.entry.words.now i }
     {
-        let start = BODIES_AT + self.cap * i;
-        &self.words[start..start + self.cap]
+        let start = BODIES_AT + cap * i;
+        &self.words[start..start + cap]
     }
 }
 
 // The nodes in an s_group, where the names of the s_groups ascend from 1, their counts of names are within the capacity, each has a member, and all members are
 // among the first n nodes; none where something is wrong with contents or members.
-pub fn grouped_nodes(t: Counted<'_>, n: u32) -> Option<u64>
-    ensures { result ≡ grouped_of t.entry.cap t.entry.words.now t.entry.count n }
+pub fn grouped_nodes(t: Counted<'_>, n: u32, cap: usize) -> Option<u64>
+    ensures { result ≡ grouped_of cap t.entry.words.now t.entry.count n }
 {
     let mut right = true;
     let mut all: u64 = 0;
@@ -47,7 +48,7 @@ pub fn grouped_nodes(t: Counted<'_>, n: u32) -> Option<u64>
         let word = t.words[CONTENTS_AT + i];
         let set = t.words[MEMBERS_AT + i];
         let name = group_name(word);
-        right &= (last < name) & ((name_count(word) <= t.cap) & (set != 0));
+        right &= (last < name) & ((name_count(word) <= cap) & (set != 0));
         last = name;
         all |= set;
     }
@@ -94,14 +95,15 @@ pub fn members_met(t: Counted<'_>) -> bool
 }
 
 // Whether the names of each are a sound namespace, with hosts among the first n nodes. All share the slots, and each has a stamp of its own.
-pub fn names_sound(t: Counted<'_>, n: u32) -> bool
-    ensures { result ≡ all_below t.entry.count (names_right t.entry.cap t.entry.words.now n) }
+pub fn names_sound(t: Counted<'_>, n: u32, cap: usize) -> bool
+    requires { length t.words.now ≡ table_words cap }
+    ensures { result ≡ all_below t.entry.count (names_right cap t.entry.words.now n) }
 {
     let mut seen = [0u8; SLOT_COUNT];
     for i in 0..t.count {
         let count = name_count(t.words[CONTENTS_AT + i]);
         let stamp = (i + 1) as u8;
-        if !namespace_test::is_sound(t.body(i), count, n, &mut seen, stamp) {
+        if !namespace_test::is_sound(t.body(cap, i), count, n, &mut seen, stamp) {
             return false;
         }
     }

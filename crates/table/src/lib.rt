@@ -33,28 +33,31 @@ fn head_sound(size: u64, hidden: u64, count: u64, spare: u64) -> bool
 
 // Whether the words of names past the s_groups that there are are zero, a namespace at a time: a single loop over all of them takes half as long again where
 // its code falls into two lines of the processor's code cache.
-fn bodies_zero(t: Counted<'_>) -> bool
-    ensures { result ≡ all_zero (part t.entry.words.now (bodies_at + t.entry.cap * t.entry.count) (table_words t.entry.cap)) }
+fn bodies_zero(t: Counted<'_>, cap: usize) -> bool
+    requires { length t.words.now ≡ table_words cap }
+    ensures { result ≡ all_zero (part t.entry.words.now (bodies_at + cap * t.entry.count) (table_words cap)) }
 {
     let mut right = true;
     for i in t.count..GROUP_LIMIT {
-        right &= all_zero(t.body(i));
+        right &= all_zero(t.body(cap, i));
     }
     right
 }
 
 // Whether contents, members and names past the s_groups that there are are zero.
-fn unused_zero(t: Counted<'_>) -> bool
-    ensures { result ≡ unused_zero t.entry.cap t.entry.words.now t.entry.count }
+fn unused_zero(t: Counted<'_>, cap: usize) -> bool
+    requires { length t.words.now ≡ table_words cap }
+    ensures { result ≡ unused_zero cap t.entry.words.now t.entry.count }
 {
     let contents = &t.words[CONTENTS_AT + t.count..MEMBERS_AT];
     let members = &t.words[MEMBERS_AT + t.count..LINKS_AT];
-    all_zero(contents) & (all_zero(members) & bodies_zero(t))
+    all_zero(contents) & (all_zero(members) & bodies_zero(t, cap))
 }
 
 // Whether all that follows contents and members is right, for n nodes, and those of them in an s_group. It goes through the table from front to back.
-fn rest_sound(t: Counted<'_>, n: u32, grouped: u64) -> bool
-    ensures { result ≡ rest_right t.entry.cap t.entry.words.now t.entry.count n grouped }
+fn rest_sound(t: Counted<'_>, n: u32, cap: usize, grouped: u64) -> bool
+    requires { length t.words.now ≡ table_words cap }
+    ensures { result ≡ rest_right cap t.entry.words.now t.entry.count n grouped }
 {
     let loose = nodes::diff(nodes::diff(nodes::roster(n), t.words[HIDDEN_AT]), grouped);
     let links = links_sound(&t.words[LINKS_AT..FREE_AT], n);
@@ -65,17 +68,18 @@ fn rest_sound(t: Counted<'_>, n: u32, grouped: u64) -> bool
         loose,
         n,
     );
-    let unused = unused_zero(t);
-    let names = groups_test::names_sound(t, n);
+    let unused = unused_zero(t, cap);
+    let names = groups_test::names_sound(t, n, cap);
     links & (met & (free & (unused & names)))
 }
 
 // Whether all that follows the head is right, for n nodes.
-fn parts_sound(t: Counted<'_>, n: u32) -> bool
-    ensures { result ≡ parts_right t.entry.cap t.entry.words.now t.entry.count n }
+fn parts_sound(t: Counted<'_>, n: u32, cap: usize) -> bool
+    requires { length t.words.now ≡ table_words cap }
+    ensures { result ≡ parts_right cap t.entry.words.now t.entry.count n }
 {
-    match groups_test::grouped_nodes(t, n) {
-        Some(grouped) => rest_sound(t, n, grouped),
+    match groups_test::grouped_nodes(t, n, cap) {
+        Some(grouped) => rest_sound(t, n, cap, grouped),
         None => false,
     }
 }
@@ -95,9 +99,9 @@ fn sound_for(t: &[u64], cap: usize) -> bool
             Counted {
                 words: t,
                 count: count as usize,
-                cap,
             },
             size as u32,
+            cap,
         );
     }
     false

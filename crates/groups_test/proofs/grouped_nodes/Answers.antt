@@ -21,7 +21,7 @@ loop-i-preserved c =
     let v = c.loop-i in
     let t = c.args.t.words.now in
     record {
-      tested = rw (c.group_name-name.ensures, c.name_count.ensures) (right-step c.args.t.cap t v.i v.right v.invariant.tested v.last v.invariant.before);
+      tested = rw (c.group_name-name.ensures, c.name_count.ensures) (right-step c.args.cap t v.i v.right v.invariant.tested v.last v.invariant.before);
       gathered = ap (λ (w : ℕ). union w (members_of t v.i)) v.invariant.gathered ∙ grouped-step t (omega arith) v.i (omega arith);
       before = rw (c.group_name-name.ensures, add-one);
     }
@@ -33,4 +33,4 @@ returns c =
     let end : v.i ≡ a.t.count = omega arith in
     let few : v.i ≤ group_limit = omega arith in
     c.then_some.ensures
-    ∙ rw (← end) (grouped-told a.t.cap a.t.words.now v.i a.n (omega arith) few v.right v.invariant.tested v.all v.invariant.gathered c.beyond.result c.beyond.ensures)
+    ∙ rw (← end) (grouped-told a.cap a.t.words.now v.i a.n (omega arith) few v.right v.invariant.tested v.all v.invariant.gathered c.beyond.result c.beyond.ensures)

@@ -8,7 +8,7 @@ use Rattle.groups_test.proofs.grouped_nodes.Given as goal
 
 abbrev pub invariant-loop-i : goal.invariant-loop-i
 invariant-loop-i l = record {
-  tested : l.right ≡ all_below l.i (group_right l.t.cap l.t.words.now);
+  tested : l.right ≡ all_below l.i (group_right l.cap l.t.words.now);
   gathered : l.all ≡ grouped_in l.t.words.now l.i;
   before : l.last ≡ name_before l.t.words.now l.i;
 }

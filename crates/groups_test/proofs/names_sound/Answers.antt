@@ -13,8 +13,8 @@ loop-i-init c = below_none _
 
 pub returns-then-not-is_sound : goal.returns-then-not-is_sound
 returns-then-not-is_sound c =
-    let t = c.args.t in
-    sym (below_fails t.count (names_right t.cap t.words.now c.args.n) c.loop-i.i (omega arith)
+    let a = c.args in
+    sym (below_fails a.t.count (names_right a.cap a.t.words.now a.n) c.loop-i.i (omega arith)
     (sym (c.is_sound.ensures ∙ ap₂ (sound_words c.args.n) c.name_count-count.ensures c.body.ensures) ∙ c.if-not-is_sound.true))
 
 pub loop-i-preserved : goal.loop-i-preserved

@@ -7,4 +7,4 @@ use Rattle.groups_test.specs.GroupTests.{names_right}
 use Rattle.groups_test.proofs.names_sound.Given as goal
 
 abbrev pub invariant-loop-i : goal.invariant-loop-i
-invariant-loop-i l = all_below l.i (names_right l.t.cap l.t.words.now l.n) ≡ true
+invariant-loop-i l = all_below l.i (names_right l.cap l.t.words.now l.n) ≡ true

@@ -28,19 +28,19 @@ more cap g i t long few l x ex y ey =
 
 pub loop-i-init : goal.loop-i-init
 loop-i-init c =
-    let t = c.args.t in
-    sym (zero-none t.words.now (bodies_at + t.cap * t.count) (omega (arith, bodies-before t.cap t.count t.few)))
+    let a = c.args in
+    sym (zero-none a.t.words.now (bodies_at + a.cap * a.t.count) (omega (arith, bodies-before a.cap a.t.count a.t.few)))
 
 pub loop-i-preserved : goal.loop-i-preserved
 loop-i-preserved c =
     let v = c.loop-i in
-    let t = c.args.t in
-    more t.cap t.count v.i t.words.now t.long (omega arith) (omega arith) v.right v.invariant c.all_zero-right.result
-    (c.all_zero-right.ensures ∙ ap all_zero (c.body.ensures ∙ sym (lent-part (bodies_at + t.cap * v.i) t.cap t.words.now)))
+    let a = c.args in
+    more a.cap a.t.count v.i a.t.words.now c.requires (omega arith) (omega arith) v.right v.invariant c.all_zero-right.result
+    (c.all_zero-right.ensures ∙ ap all_zero (c.body.ensures ∙ sym (lent-part (bodies_at + a.cap * v.i) a.cap a.t.words.now)))
 
 pub returns : goal.returns
 returns c =
     let v = c.loop-i in
-    let t = c.args.t in
+    let a = c.args in
     v.invariant
-    ∙ ap (λ (n : ℕ). all_zero (part t.words.now (bodies_at + t.cap * t.count) (bodies_at + n))) (ap (λ (n : ℕ). t.cap * n) (omega arith) ∙ mul_comm t.cap group_limit)
+    ∙ ap (λ (n : ℕ). all_zero (part a.t.words.now (bodies_at + a.cap * a.t.count) (bodies_at + n))) (ap (λ (n : ℕ). a.cap * n) (omega arith) ∙ mul_comm a.cap group_limit)

@@ -9,4 +9,4 @@ use Rattle.table.proofs.bodies_zero.Given as goal
 
 abbrev pub invariant-loop-i : goal.invariant-loop-i
 invariant-loop-i l =
-    l.right ≡ all_zero (part l.t.words.now (bodies_at + l.t.cap * l.t.count) (bodies_at + l.t.cap * l.i))
+    l.right ≡ all_zero (part l.t.words.now (bodies_at + l.cap * l.t.count) (bodies_at + l.cap * l.i))

@@ -45,8 +45,8 @@ fn among(numbers: &[u16], number: u16) -> bool
     held
 }
 
-// A place and a count of places have one bound each, which a type for either would not say more plainly. The count comes beside the plan, in `gathering`,
-// `creating` and `launch` too: `plan::fitted` counts on past the room, since of more s_groups than there is room for it tells that they are too many.
+// A place and a count of places have one bound each, which a type for either would not say more plainly. The count comes beside the plan, in `gathering` and
+// `launch` too: `plan::fitted` counts on past the room, since of more s_groups than there is room for it tells that they are too many.
 impl Plan {
     // A plan that nothing was written to.
     pub fn new() -> Self

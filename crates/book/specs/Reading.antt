@@ -208,10 +208,10 @@ module _ (n : ℕ) (t x : List ℕ) (i at : ℕ) (R : Reading t x i at) where
     count : i ≡ length (lines t)
     count = (all_passed t i at R.passed read).1
 
-    too_few : i < n → fit n t ≡ false
+    pub too_few : i < n → fit n t ≡ false
     too_few h = unfit-few n t (omega (arith, count))
 
-    too_many : n + group_atoms < i → fit n t ≡ false
+    pub too_many : n + group_atoms < i → fit n t ≡ false
     too_many h = unfit-many n t (omega (arith, count))
 
     pub no-book : None ≡ groups_behind i n → fit n t ≡ false

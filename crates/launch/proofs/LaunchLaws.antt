@@ -22,7 +22,7 @@ use Rattle.pairs.specs.Woven.{woven, woven-take}
 use Rattle.creating.specs.Creating.{created}
 use Rattle.grammar.specs.File.{Group, Outcome, taken, refused, outcome}
 use Rattle.walk.specs.Groups.{groups}
-use Rattle.launch_file.specs.Reading.{from_groups, read_as}
+use Rattle.launch_file.specs.Reading.{from_groups, fronted, read_as, RestRead}
 use Rattle.book.specs.Book.{lines, fit}
 use Rattle.duplicates.specs.Duplicates.{kept, clash}
 use Rattle.plan.specs.declared.Misfit.TheVariants.{Clash, Unknown, TooMany}
@@ -158,6 +158,13 @@ made-at-once N hidden book file t g k e ms u o b w P c = record {
 -- a launch that went through is told so
 pub tells-through : {l : Launch} {u : List ℕ} {a : Answer} {p : ℕ} → l ≡ record { answer = answer_of Value.Ok Done; place = 0; table = u } → (a ≡ answer_of Value.Ok Done) × (p ≡ 0) → Tells l a p u
 tells-through e w = rw e (w.0, (w.1, refl))
+
+-- what a reader says of its text and place is so of a file and a place that they are
+pub front-of : {text file : List ℕ} (r : Result ℕ ℕ) → text ≡ file → outcome text ≡ fronted text r → outcome file ≡ fronted file r
+front-of r e f = rw e at f
+
+pub rest-of : {text file : List ℕ} {at g : ℕ} {r : Result ℕ ℕ} → text ≡ file → at ≡ g → RestRead text at r → RestRead file g r
+rest-of e k f = rw (e, k) at f
 
 -- reading said that a file whose groups begin at g is whole
 pub read_whole : (file : List ℕ) (g k : ℕ) (r : Result ℕ ℕ) → outcome file ≡ from_groups file g → from_groups file g ≡ read_as file r → ((i : ℕ) → r ≡ Ok i → i ≡ g) → r ≡ Ok k

@@ -21,6 +21,7 @@ use layout::{NODE_LIMIT, TABLE_WORDS};
 use pairs::Plan;
 use plain_book::PlainBook;
 use plan::Misfit;
+use reader::Reader;
 
 // What a launch answers: Ok or Error with its reason, and the place of the file at which it is refused.
 #[derive(Clone, Copy)]
@@ -85,7 +86,7 @@ fn make(t: &mut [u64], n: u32, hidden: u64, plan: &Plan, count: usize)
     ensures { t.new ≡ created (woven (take count plan.now)) (opening n hidden t.old).table }
 {
     opening::open(t, n, hidden);
-    creating::create(t, plan, count);
+    creating::create(t, plan.numbers(count), plan.sets(count));
 }
 
 // The launch of a file that was read, on a run and a roster that are in order: it is a file whose groups stand at a place, or it is refused at one.
@@ -200,13 +201,13 @@ pub fn launch(t: &mut [u64], n: u32, hidden: u64, start: u32, book: &[u8], file:
         return refused_at(Reason::NodeUnknown, 0);
     }
     // The functions that have arrays are called at more than one place, so that the compiler keeps the arrays out of the frame on which reading stands.
-    match launch_file::front(file) {
+    match Reader::new(file).front() {
         Err(p) => told(judged(t, n, hidden, start, book, file, Err(p))),
         Ok(g) => {
             if at_once(t, n, hidden, book, file, g, false) {
                 return through();
             }
-            match launch_file::rest(file, g) {
+            match Reader::new(file).moved(g).rest() {
                 Err(p) => told(judged(t, n, hidden, start, book, file, Err(p))),
                 Ok(_) => {
                     if at_once(t, n, hidden, book, file, g, true) {

@@ -162,21 +162,23 @@ impl Trial<'_> {
     }
 }
 
-// Puts in words what some launch file has at the place where the text in the room is refused. What stands in the room from there on is lost.
-pub fn put_expected(printer: &mut Printer, room: &mut [u8], place: usize) {
+// Puts at a place of a run, in words, what some launch file has at the place where the text in the room is refused, and answers the next place of the run. What
+// stands in the room from the place of the refusal on is lost.
+pub fn put_expected(out: &mut [u8], at: usize, room: &mut [u8], place: usize) -> usize {
     let closes = room.get(place) == Some(&b']');
+    let mut printer = Printer { bytes: out, at };
     let mut trial = Trial { room, place };
     if trial.fits(b"!") {
-        trial.put_quoted(printer);
+        trial.put_quoted(&mut printer);
     } else if trial.fits(b"Q") {
-        trial.put_plain(printer);
+        trial.put_plain(&mut printer);
     } else {
-        let start = printer.at;
-        trial.put_inside(printer);
-        if printer.at == start {
-            trial.put_ending(printer);
+        trial.put_inside(&mut printer);
+        if printer.at == at {
+            trial.put_ending(&mut printer);
         } else if closes {
-            trial.put_lacking(printer);
+            trial.put_lacking(&mut printer);
         }
     }
+    printer.at
 }

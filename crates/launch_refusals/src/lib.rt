@@ -7,15 +7,12 @@ ghost use Rattle.refusal_head.specs.Refusal.{refusal_head};
 use answers::Reason;
 use launch_expected::{front, put_expected};
 use launch_why::{Asked, put_why};
-use print::Printer;
 use refusal_head::{Named, is_slip, put_head};
 
 // Puts what is expected at the place where the file in the room is refused. What stands in the room from there on is lost.
 fn put_slip(out: &mut [u8], room: &mut [u8], place: usize) -> usize {
-    let mut printer = Printer { bytes: out, at: 0 };
-    put_expected(&mut printer, room, place);
-    printer.put_bytes(b"\n");
-    printer.at
+    let at = put_expected(out, 0, room, place);
+    print::put_bytes(out, at, b"\n")
 }
 
 // Puts what is said of a launch that is refused: what is determined by its answer, and then why. The file stands in the first bytes of the room, so many; those

@@ -80,7 +80,7 @@ module _ (book : List ℕ) (n : ℕ) (cs ms : List ℕ) (i : ℕ) (h : min (leng
 -- ---- the words of a table
 
 -- the members of the s_groups are the words
-bare-members : (cs ms : List ℕ) → length cs ≡ length ms → map (λ g. g.members) (bare cs ms) ≡ ms
+pub bare-members : (cs ms : List ℕ) → length cs ≡ length ms → map (λ g. g.members) (bare cs ms) ≡ ms
 bare-members [] [] e = refl
 bare-members [] (m ∷ ms) e = absurd (omega arith)
 bare-members (c ∷ cs) [] e = absurd (omega arith)

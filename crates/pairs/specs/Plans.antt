@@ -1,5 +1,5 @@
 -- A plan seen as a list: its numbers and sets, side by side. Definitions, and their laws. Assumes nothing.
-use Rattle.std.specs.Prelude.{◌≡◌, refl, Bool, List, [], ◌∷◌, ℕ, zero, suc, eqb, length, take, set, get_or, replicate}
+use Rattle.std.specs.Prelude.{◌≡◌, refl, Bool, List, [], ◌∷◌, ℕ, zero, suc, eqb, map, length, take, set, get_or, replicate}
 use Rattle.std.specs.List.{list_any}
 use Rattle.std.proofs.Common.{ap, arith}
 use Rattle.pairs.specs.declared.Made.{Made}
@@ -21,6 +21,14 @@ holds ns m = list_any (λ n. eqb n m) ns
 -- a number is that of one of these s_groups
 abbrev pub seen : List Made → ℕ → Bool
 seen ms m = list_any (λ g. eqb g.number m) ms
+
+-- the numbers of s_groups
+abbrev pub numbers_of : List Made → List ℕ
+numbers_of ms = map (λ g. g.number) ms
+
+-- and their sets
+abbrev pub sets_of : List Made → List ℕ
+sets_of ms = map (λ g. g.set) ms
 
 -- as many as there are numbers
 pub paired-length : (ns ss : List ℕ) → length ns ≡ length ss → length (paired ns ss) ≡ length ns
@@ -61,3 +69,32 @@ pub paired-replicate : (k n s : ℕ) → paired (replicate k n) (replicate k s) 
 unfolding paired
 paired-replicate zero n s = refl
 paired-replicate (suc k) n s = ap (λ ms. made_of n s ∷ ms) (paired-replicate k n s)
+
+-- the first numbers are those of the first s_groups
+pub paired-numbers : (ns ss : List ℕ) (count : ℕ) → length ns ≡ length ss → numbers_of (take count (paired ns ss)) ≡ take count ns
+unfolding paired
+paired-numbers ns ss zero e = refl
+paired-numbers [] [] (suc count) e = refl
+paired-numbers [] (s ∷ ss) (suc count) e = absurd (omega arith)
+paired-numbers (n ∷ ns) [] (suc count) e = absurd (omega arith)
+paired-numbers (n ∷ ns) (s ∷ ss) (suc count) e = ap (λ l. n ∷ l) (paired-numbers ns ss count (omega arith))
+
+-- and the first sets
+pub paired-sets : (ns ss : List ℕ) (count : ℕ) → length ns ≡ length ss → sets_of (take count (paired ns ss)) ≡ take count ss
+unfolding paired
+paired-sets ns ss zero e = refl
+paired-sets [] [] (suc count) e = refl
+paired-sets [] (s ∷ ss) (suc count) e = absurd (omega arith)
+paired-sets (n ∷ ns) [] (suc count) e = absurd (omega arith)
+paired-sets (n ∷ ns) (s ∷ ss) (suc count) e = ap (λ l. s ∷ l) (paired-sets ns ss count (omega arith))
+
+-- s_groups have as many sets as numbers
+pub one-each : (ms : List Made) → length (numbers_of ms) ≡ length (sets_of ms)
+one-each [] = refl
+one-each (m ∷ ms) = omega (arith, one-each ms)
+
+-- both side by side are the s_groups again
+pub paired-again : (ms : List Made) → paired (numbers_of ms) (sets_of ms) ≡ ms
+unfolding paired
+paired-again [] = refl
+paired-again (m ∷ ms) = ap (λ l. m ∷ l) (paired-again ms)

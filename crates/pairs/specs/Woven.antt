@@ -1,5 +1,5 @@
 -- S_groups to be made read as one list of words, two for each: its number and its set. Assumes nothing.
-use Rattle.std.specs.Prelude.{◌≡◌, refl, List, [], ◌∷◌, ◌++◌, ℕ, zero, suc, ◌+◌, ◌*◌, ◌<◌, length, take, set}
+use Rattle.std.specs.Prelude.{◌≡◌, refl, List, [], ◌∷◌, ◌++◌, ℕ, zero, suc, ◌+◌, ◌*◌, ◌<◌, length, take, set, get_or}
 use Rattle.std.proofs.Common.{ap, arith}
 use Rattle.pairs.specs.declared.Made.{Made}
 
@@ -13,6 +13,15 @@ pub woven-length : (ms : List Made) → length (woven ms) ≡ 2 * length ms
 unfolding woven
 woven-length [] = refl
 woven-length (m ∷ ms) = omega (arith, woven-length ms)
+
+-- the number of the i-th stands at 2 i
+pub woven-first : (ms : List Made) (d : Made) (i : ℕ) → i < length ms → get_or (woven ms) (2 * i) 0 ≡ (get_or ms i d).number
+unfolding woven
+woven-first [] d i l = absurd (omega arith)
+woven-first (m ∷ ms) d zero l = refl
+woven-first (m ∷ ms) d (suc i) l =
+    let at : 2 * suc i ≡ suc (suc (2 * i)) = omega arith in
+    rw at (woven-first ms d i (omega arith))
 
 -- both words of a place are written
 pub woven-set : (ms : List Made) (i : ℕ) (m : Made) → i < length ms

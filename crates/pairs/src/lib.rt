@@ -3,7 +3,7 @@
 
 ghost use Rattle.std.specs.Prelude.{◌≡◌, ◌<◌, ◌≤◌, length, take, set, get_or, replicate};
 ghost use Rattle.semantics.specs.Sizes.{group_limit};
-ghost use Rattle.pairs.specs.Plans.{made_of, holds, seen};
+ghost use Rattle.pairs.specs.Plans.{made_of, holds, seen, numbers_of, sets_of};
 
 use layout::GROUP_LIMIT;
 use std::marker::Model;
@@ -45,8 +45,8 @@ fn among(numbers: &[u16], number: u16) -> bool
     held
 }
 
-// A place and a count of places have one bound each, which a type for either would not say more plainly. The count comes beside the plan, in `gathering`,
-// `creating` and `launch` too: `plan::fitted` counts on past the room, since of more s_groups than there is room for it tells that they are too many.
+// A place and a count of places have one bound each, which a type for either would not say more plainly. The count comes beside the plan, in `gathering` and
+// `launch` too: `plan::fitted` counts on past the room, since of more s_groups than there is room for it tells that they are too many.
 impl Plan {
     // A plan that nothing was written to.
     pub fn new() -> Self
@@ -86,5 +86,21 @@ impl Plan {
         ensures { result ≡ seen (take count self.now) number }
     {
         among(&self.numbers[..count], number)
+    }
+
+    // The numbers of the first `count`.
+    pub fn numbers(&self, count: usize) -> &[u16]
+        requires { count ≤ group_limit }
+        ensures { result.now ≡ numbers_of (take count self.now) }
+    {
+        &self.numbers[..count]
+    }
+
+    // Their sets.
+    pub fn sets(&self, count: usize) -> &[u64]
+        requires { count ≤ group_limit }
+        ensures { result.now ≡ sets_of (take count self.now) }
+    {
+        &self.sets[..count]
     }
 }

@@ -4,6 +4,7 @@ use mathlib.Core.Path.{ap, ◌∙◌}
 use Rattle.semantics.specs.Sizes.{names_per_group}
 use Rattle.semantics.specs.Test.{sound}
 use Rattle.semantics.proofs.Agree.{test-regular}
+use Rattle.pairs.specs.Plans.{one-each, paired-again}
 use Rattle.creating.specs.Creating.{created}
 use Rattle.launch.proofs.LaunchLaws.{opened-sound}
 use Rattle.launch.proofs.make.Goals as goal
@@ -11,7 +12,7 @@ use Rattle.launch.proofs.make.Goals as goal
 pub create-requires : goal.create-requires
 create-requires c =
     let ok = ap (sound names_per_group) c.open.ensures.t_after ∙ opened-sound _ _ _ c.requires.opens in
-    record { count_few = c.requires.count_few; t_len = (test-regular names_per_group _ ok).2; t_value = ok }
+    record { t_len = (test-regular names_per_group _ ok).2; t_value = ok; numbers_len = rw (c.numbers.ensures, c.sets.ensures) (one-each _) }
 
 pub returns : goal.returns
-returns c = c.create.ensures ∙ ap (created _) c.open.ensures.t_after
+returns c = (rw (c.numbers.ensures, c.sets.ensures, paired-again _) at c.create.ensures) ∙ ap (created _) c.open.ensures.t_after

@@ -12,9 +12,9 @@ loop-number-preserved c =
     let a = c.args in
     let turn = zip_turn a.numbers.now a.sets.now v.yielded c.into_iter-number-iterator.result v.number-iterator c.next.new.self c.next.result (search rules) (search rules) v.yielded_by _ c.in-Some.is c.next.ensures.steps in
     simp length-append (makes _ _ _ _ (made_of 0 0) (made_of c.in-Some.number.now c.in-Some.members.now) v.invariant
-        (omega (arith, paired-length a.numbers.now a.sets.now c.requires.numbers_len, turn.0))
-        (rw (turn.2 0, turn.3 0) (sym (paired-get a.numbers.now a.sets.now _ c.requires.numbers_len)))
-        (rw c.from-s.ensures at c.from-s.type_inv) (omega arith) (rw (c.lowest-maker.ensures, c.from-s.ensures) at c.new_s_group.ensures.t_after))
+    (omega (arith, paired-length a.numbers.now a.sets.now c.requires.numbers_len, turn.0))
+    (rw (turn.2 0, turn.3 0) (sym (paired-get a.numbers.now a.sets.now _ c.requires.numbers_len)))
+    (rw c.from-s.ensures at c.from-s.type_inv) (omega arith) (rw (c.lowest-maker.ensures, c.from-s.ensures) at c.new_s_group.ensures.t_after))
 
 pub returns : goal.returns
 returns c =
